@@ -444,8 +444,13 @@ enum {
     ELFMAP_TOO_LONG = 3,   /* the output would be longer than 2^30 bytes, or have 0xffff segments or more */
     ELFMAP_SMALL_ROOM = 4, /* the buffer is too small: it has to be `length` bytes long */
     ELFMAP_NO_MEMORY = 5,  /* out of memory */
-    ELFMAP_BAD_RULES = 6,  /* line `at` of the relocation rules is bad, and none before it; lines count from 1 */
-    ELFMAP_BAD_FILES = 7   /* the extent of file `file` does not lie in the bytes, and each before it does */
+    ELFMAP_BAD_RULES = 6   /* line `at` of the relocation rules is bad, and none before it; lines count from 1 */
+};
+
+/* A file of a link: its bytes in memory. */
+struct elfmap_bytes {
+    const uint8_t *bytes; /* the first one; it may be null where there is none */
+    size_t len;           /* how many they are */
 };
 
 /* What a call of an engine returns beside its status. Files, indexes and entries count from 0. */
@@ -502,33 +507,30 @@ uint32_t elfmap_rewrite(const uint8_t *bytes, size_t len, uint8_t *buffer, size_
 uint32_t elfmap_object_verdict(const uint8_t *bytes, size_t len, struct elfmap_outcome *outcome);
 
 /*
- * The lines of `elfmap map` on `count` files: where the sections and names of their link are. Each file is an extent of the bytes; extents
- * may overlap. If `options->uses_rules` is not 0, the relocated bytes of each section follow, by the relocation rules in the text `rules`
+ * The lines of `elfmap map` on `count` files: where the sections and names of their link are. The bytes of files may overlap. If
+ * `options->uses_rules` is not 0, the relocated bytes of each section follow, by the relocation rules in the text `rules`
  * (docs/RULE_FILES.md; an empty text has no rule). Returns ELFMAP_DONE; ELFMAP_REFUSED with the line `file F refused R A` in the buffer;
- * ELFMAP_NOT_LINKED with the line `refused RULE FILE INDEX ENTRY`; or, without output, ELFMAP_BAD_RULES, which is tested first, or
- * ELFMAP_BAD_FILES.
+ * ELFMAP_NOT_LINKED with the line `refused RULE FILE INDEX ENTRY`; or, without output, ELFMAP_BAD_RULES, which is tested first.
  */
-uint32_t elfmap_map(const uint8_t *bytes, size_t len, const struct elfmap_extent *files, size_t count,
-                    const struct elfmap_options *options, const uint8_t *rules, size_t rules_len, uint8_t *buffer, size_t size,
-                    struct elfmap_outcome *outcome);
+uint32_t elfmap_map(const struct elfmap_bytes *files, size_t count, const struct elfmap_options *options, const uint8_t *rules,
+                    size_t rules_len, uint8_t *buffer, size_t size, struct elfmap_outcome *outcome);
 
 /*
  * The executable of `count` files, as `elfmap link` writes it, by these relocation rules. It begins at the symbol whose name is the
- * `entry_len` bytes at `entry`. Returns ELFMAP_DONE; or, without output, ELFMAP_BAD_RULES, which is tested first, ELFMAP_BAD_FILES,
- * ELFMAP_REFUSED, ELFMAP_NOT_LINKED or ELFMAP_TOO_LONG.
+ * `entry_len` bytes at `entry`. Returns ELFMAP_DONE; or, without output, ELFMAP_BAD_RULES, which is tested first, ELFMAP_REFUSED,
+ * ELFMAP_NOT_LINKED or ELFMAP_TOO_LONG.
  */
-uint32_t elfmap_link(const uint8_t *bytes, size_t len, const struct elfmap_extent *files, size_t count,
-                     const struct elfmap_options *options, const uint8_t *entry, size_t entry_len, const uint8_t *rules, size_t rules_len,
-                     uint8_t *buffer, size_t size, struct elfmap_outcome *outcome);
+uint32_t elfmap_link(const struct elfmap_bytes *files, size_t count, const struct elfmap_options *options, const uint8_t *entry,
+                     size_t entry_len, const uint8_t *rules, size_t rules_len, uint8_t *buffer, size_t size,
+                     struct elfmap_outcome *outcome);
 
 /*
  * Whether `count` files link, without the executable: by rules 1 to 11 of the link, and if `options->uses_rules` is not 0 by 12 to 16 too.
- * An `entry` of no bytes asks for no entry point. Returns ELFMAP_DONE, ELFMAP_REFUSED, ELFMAP_NOT_LINKED, ELFMAP_BAD_RULES, which is tested
- * first, or ELFMAP_BAD_FILES; `outcome->length` is 0. How long the executable would be is not tested.
+ * An `entry` of no bytes asks for no entry point. Returns ELFMAP_DONE, ELFMAP_REFUSED, ELFMAP_NOT_LINKED or ELFMAP_BAD_RULES, which is
+ * tested first; `outcome->length` is 0. How long the executable would be is not tested.
  */
-uint32_t elfmap_link_verdict(const uint8_t *bytes, size_t len, const struct elfmap_extent *files, size_t count,
-                             const struct elfmap_options *options, const uint8_t *entry, size_t entry_len, const uint8_t *rules,
-                             size_t rules_len, struct elfmap_outcome *outcome);
+uint32_t elfmap_link_verdict(const struct elfmap_bytes *files, size_t count, const struct elfmap_options *options, const uint8_t *entry,
+                             size_t entry_len, const uint8_t *rules, size_t rules_len, struct elfmap_outcome *outcome);
 
 /*
  * ---- The memory of the engines. The library defines these three functions over malloc, realloc and free. If a program defines all three,

@@ -33,6 +33,4 @@ const ELFMAP = {
     NO_MEMORY: 5,
     // Line `at` of the relocation rules is bad, and none before it; lines count from 1.
     BAD_RULES: 6,
-    // The extent of file `file` does not lie in the bytes, and each before it does.
-    BAD_FILES: 7,
 };

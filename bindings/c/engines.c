@@ -97,7 +97,7 @@ struct call {
     enum engine engine;
     const uint8_t *bytes;
     size_t len;
-    const struct elfmap_extent *files;
+    const struct elfmap_bytes *files;
     size_t count;
     struct elfmap_options options;
     const uint8_t *entry;
@@ -121,10 +121,9 @@ static uint32_t called(const struct call *it, uint8_t *room, size_t size, struct
     case REFUSED_TABLES:
         return elfmap_refused_tables(it->bytes, it->len, room, size, outcome);
     case MAP:
-        return elfmap_map(it->bytes, it->len, it->files, it->count, &it->options, it->rules, it->rules_len, room, size, outcome);
+        return elfmap_map(it->files, it->count, &it->options, it->rules, it->rules_len, room, size, outcome);
     default:
-        return elfmap_link(it->bytes, it->len, it->files, it->count, &it->options, it->entry, it->entry_len, it->rules, it->rules_len,
-                           room, size, outcome);
+        return elfmap_link(it->files, it->count, &it->options, it->entry, it->entry_len, it->rules, it->rules_len, room, size, outcome);
     }
 }
 
@@ -363,8 +362,8 @@ static struct found verdict_of(enum verdict kind, const struct call *it) {
     else if (kind == OBJECT)
         found.status = elfmap_object_verdict(it->bytes, it->len, &found.outcome);
     else
-        found.status = elfmap_link_verdict(it->bytes, it->len, it->files, it->count, &it->options, it->entry, it->entry_len, it->rules,
-                                           it->rules_len, &found.outcome);
+        found.status = elfmap_link_verdict(it->files, it->count, &it->options, it->entry, it->entry_len, it->rules, it->rules_len,
+                                           &found.outcome);
     check(held == 0, "all memory is given back");
     return found;
 }
@@ -470,19 +469,17 @@ static void check_rewrite(void) {
     check_answer(&call, ELFMAP_REFUSED, numbers_of(0, 4, 0, 4), "", "nor is a file that is no image");
 }
 
-/* Two files in one row of bytes: an object, and after it a byte that is no file. */
-enum { PAIR_SIZE = OBJECT_SIZE + 1 };
-static const struct elfmap_extent object_place = {0, OBJECT_SIZE};
+/* A byte that is no file. */
+static const uint8_t no_file = 0;
 
 #define MAP_LINES "output 0x1000 0x8 bits 0x6 .text\nmember 0x1000 0x8 0 0\nname 0x1004 strong start\n"
 #define BYTES_LINES MAP_LINES "bytes 0 0 cccccccccccccccc\n"
 
 static void check_map(void) {
-    uint8_t bytes[PAIR_SIZE];
-    bytes[OBJECT_SIZE] = 0;
+    uint8_t bytes[OBJECT_SIZE];
     make_object(bytes);
-    struct call call = a_call(MAP, bytes, PAIR_SIZE);
-    struct elfmap_extent files[3] = {object_place, {OBJECT_SIZE, 1}, {0, 0}};
+    struct call call = a_call(MAP, bytes, OBJECT_SIZE);
+    struct elfmap_bytes files[3] = {{bytes, OBJECT_SIZE}, {&no_file, 1}, {NULL, 0}};
     call.files = files;
     call.count = 1;
     check_answer(&call, ELFMAP_DONE, no_numbers, MAP_LINES, "an object is mapped");
@@ -502,7 +499,7 @@ static void check_map(void) {
     call.options.uses_rules = 0;
     call.count = 3;
     check_answer(&call, ELFMAP_REFUSED, numbers_of(1, 2, 0, 1), "file 1 refused 2 1\n", "the second file is refused");
-    files[1] = object_place;
+    files[1] = files[0];
     check_answer(&call, ELFMAP_REFUSED, numbers_of(2, 2, 0, 0), "file 2 refused 2 0\n", "then the third one is");
     call.count = 2;
     check_answer(&call, ELFMAP_NOT_LINKED, numbers_of(1, 8, 0, 0), "refused 8 1 0 0\n", "a name has two definitions");
@@ -513,41 +510,36 @@ static void check_map(void) {
     check_answer(&call, ELFMAP_DONE, no_numbers, "", "no files have no lines");
 }
 
-/* An extent that does not lie in the bytes is reported before anything is said of a file. */
-static void check_extents(void) {
-    uint8_t bytes[PAIR_SIZE];
-    bytes[OBJECT_SIZE] = 0;
+/* Files lie anywhere in memory, in any order, and may share bytes. */
+static void check_files_apart(void) {
+    uint8_t bytes[OBJECT_SIZE], later[3 * OBJECT_SIZE];
     make_object(bytes);
-    const struct elfmap_extent outside[] = {{0, PAIR_SIZE + 1},      {PAIR_SIZE, 1},          {PAIR_SIZE + 1, 0}, {UINT64_MAX, 1},
-                                            {UINT64_MAX, UINT64_MAX}, {1, UINT64_MAX},         {UINT64_MAX, 0},    {2, PAIR_SIZE - 1}};
-    for (size_t k = 0; k < sizeof outside / sizeof *outside; k++) {
-        for (int engine = MAP; engine <= LINK; engine++) {
-            struct elfmap_extent files[3] = {{OBJECT_SIZE, 1}, outside[k], {UINT64_MAX, 7}};
-            struct call call = a_call((enum engine) engine, bytes, PAIR_SIZE);
-            call.files = files;
-            call.count = 3;
-            check_answer(&call, ELFMAP_BAD_FILES, numbers_of(1, 0, 0, 0), "", "the second extent passes the end");
-            call.files = files + 1;
-            check_answer(&call, ELFMAP_BAD_FILES, no_numbers, "", "the first one does");
-            call.options.uses_rules = 1;
-            call.rules = (const uint8_t *) "\n";
-            call.rules_len = 1;
-            check_answer(&call, ELFMAP_BAD_RULES, numbers_of(0, 0, 0, 1), "", "bad rules are reported first");
-        }
+    make_object(later + OBJECT_SIZE);
+    struct elfmap_bytes files[2] = {{later + OBJECT_SIZE, OBJECT_SIZE}, {bytes, OBJECT_SIZE}};
+    struct call call = a_call(MAP, NULL, 0);
+    call.files = files;
+    for (size_t k = 0; k < 2; k++) {
+        call.files = files + k;
+        call.count = 1;
+        check_answer(&call, ELFMAP_DONE, no_numbers, MAP_LINES, "an object is mapped wherever it lies");
     }
-    struct elfmap_extent at_end = {PAIR_SIZE, 0};
-    struct call call = a_call(MAP, bytes, PAIR_SIZE);
-    call.files = &at_end;
-    call.count = 1;
-    check_answer(&call, ELFMAP_REFUSED, numbers_of(0, 2, 0, 0), "file 0 refused 2 0\n", "no bytes at the end are a file of none");
+    call.files = files;
+    call.count = 2;
+    check_answer(&call, ELFMAP_NOT_LINKED, numbers_of(1, 8, 0, 0), "refused 8 1 0 0\n", "both define one name");
+    files[1] = files[0];
+    check_answer(&call, ELFMAP_NOT_LINKED, numbers_of(1, 8, 0, 0), "refused 8 1 0 0\n", "so does a file given twice");
+    files[1].bytes++;
+    files[1].len--;
+    check_answer(&call, ELFMAP_REFUSED, numbers_of(1, 3, 0, 0), "file 1 refused 3 0\n", "the rest of a file is another file");
+    files[1].len = 0;
+    check_answer(&call, ELFMAP_REFUSED, numbers_of(1, 2, 0, 0), "file 1 refused 2 0\n", "no bytes anywhere are a file of none");
 }
 
 static void check_link(void) {
-    uint8_t bytes[PAIR_SIZE];
-    bytes[OBJECT_SIZE] = 0;
+    uint8_t bytes[OBJECT_SIZE];
     make_object(bytes);
-    struct elfmap_extent files[2] = {object_place, {OBJECT_SIZE, 1}};
-    struct call call = a_call(LINK, bytes, PAIR_SIZE);
+    struct elfmap_bytes files[2] = {{bytes, OBJECT_SIZE}, {&no_file, 1}};
+    struct call call = a_call(LINK, bytes, OBJECT_SIZE);
     call.files = files;
     call.count = 1;
     call.entry = (const uint8_t *) "started";
@@ -573,11 +565,10 @@ static void check_link(void) {
 }
 
 static void check_link_verdict(void) {
-    uint8_t bytes[PAIR_SIZE];
-    bytes[OBJECT_SIZE] = 0;
+    uint8_t bytes[OBJECT_SIZE];
     make_object(bytes);
-    struct elfmap_extent files[2] = {object_place, {OBJECT_SIZE, 1}};
-    struct call call = a_call(LINK, bytes, PAIR_SIZE);
+    struct elfmap_bytes files[2] = {{bytes, OBJECT_SIZE}, {&no_file, 1}};
+    struct call call = a_call(LINK, bytes, OBJECT_SIZE);
     call.files = files;
     call.count = 1;
     check_verdict(LINKED, &call, ELFMAP_DONE, no_numbers, "an object links, and no entry is asked for");
@@ -594,11 +585,9 @@ static void check_link_verdict(void) {
     check_verdict(LINKED, &call, ELFMAP_DONE, no_numbers, "how long the executable is does not count");
     call.count = 2;
     check_verdict(LINKED, &call, ELFMAP_REFUSED, numbers_of(1, 2, 0, 1), "the second file is refused");
-    files[1].len = 2;
-    check_verdict(LINKED, &call, ELFMAP_BAD_FILES, numbers_of(1, 0, 0, 0), "an extent past the end is bad");
     call.rules = (const uint8_t *) "2 pc 4 signed";
     call.rules_len = 13;
-    check_verdict(LINKED, &call, ELFMAP_BAD_FILES, numbers_of(1, 0, 0, 0), "rules that are not asked for are not read");
+    check_verdict(LINKED, &call, ELFMAP_REFUSED, numbers_of(1, 2, 0, 1), "rules that are not asked for are not read");
     call.options.uses_rules = 1;
     check_verdict(LINKED, &call, ELFMAP_BAD_RULES, numbers_of(0, 0, 0, 1), "a line without its end is bad");
 }
@@ -609,7 +598,7 @@ static void check_too_many(void) {
     uint8_t *bytes = mmap(NULL, len, PROT_NONE, MAP_PRIVATE | MAP_ANONYMOUS | MAP_NORESERVE, -1, 0);
     if (bytes == MAP_FAILED)
         stop("mmap");
-    const struct elfmap_extent whole = {0, len};
+    const struct elfmap_bytes whole = {bytes, len};
     const struct elfmap_outcome numbers = numbers_of(0, 1, 0, UINT64_C(1) << 30);
     struct call call = a_call(SHOW, bytes, len);
     call.files = &whole;
@@ -647,10 +636,10 @@ static void check_null(void) {
     check(is_refused_as_short(status, outcome), "it is not rewritten");
     status = elfmap_object_verdict(NULL, 0, &outcome);
     check(is_refused_as_short(status, outcome), "and is no object");
-    check(elfmap_map(NULL, 0, NULL, 0, &options, NULL, 0, NULL, 0, &outcome) == ELFMAP_DONE && outcome.length == 0, "no files have an empty map");
-    check(elfmap_link(NULL, 0, NULL, 0, &options, NULL, 0, NULL, 0, NULL, 0, &outcome) == ELFMAP_NOT_LINKED && outcome.rule == 10,
+    check(elfmap_map(NULL, 0, &options, NULL, 0, NULL, 0, &outcome) == ELFMAP_DONE && outcome.length == 0, "no files have an empty map");
+    check(elfmap_link(NULL, 0, &options, NULL, 0, NULL, 0, NULL, 0, &outcome) == ELFMAP_NOT_LINKED && outcome.rule == 10,
           "and no entry");
-    check(elfmap_link_verdict(NULL, 0, NULL, 0, &options, NULL, 0, NULL, 0, &outcome) == ELFMAP_DONE, "but they link without one");
+    check(elfmap_link_verdict(NULL, 0, &options, NULL, 0, NULL, 0, &outcome) == ELFMAP_DONE, "but they link without one");
     make_header(bytes, ET_REL, 0, 0, 0);
     check(elfmap_show(bytes, HEADER_SIZE, NULL, 0, &outcome) == ELFMAP_SMALL_ROOM && outcome.length > 0, "null is a buffer that is too small");
     check(elfmap_table_verdicts(bytes, HEADER_SIZE, 0, NULL, 0, &outcome) == ELFMAP_DONE && outcome.length == 0, "and takes no verdicts");
@@ -713,7 +702,7 @@ static void check_small_rooms(void) {
     if (!bytes)
         stop("malloc");
     make_many(bytes);
-    struct elfmap_extent file = {0, MANY_SIZE};
+    struct elfmap_bytes file = {bytes, MANY_SIZE};
     struct call call = a_call(SHOW, bytes, MANY_SIZE);
     check_memory(&call, "long lines of symbols are not kept by show");
     call.engine = MAP;
@@ -756,8 +745,8 @@ static uint64_t number_of(const char *word) {
 
 static int run_engine(int count, char **words) {
     static const char *const engines[] = {"show", "rewrite", "refused-tables", "map", "link"};
-    uint8_t *bytes = NULL, *rules = malloc(1);
-    struct elfmap_extent *files = malloc((size_t) count * sizeof *files);
+    uint8_t *rules = malloc(1);
+    struct elfmap_bytes *files = malloc((size_t) count * sizeof *files);
     if (!files || !rules)
         stop("malloc");
     struct call call = a_call(SHOW, NULL, 0);
@@ -776,20 +765,22 @@ static int run_engine(int count, char **words) {
         call.entry = (const uint8_t *) words[4];
         call.entry_len = call.engine == LINK ? strlen(words[4]) : 0;
     }
-    for (int k = first; k < count; k++) {
-        files[call.count].start = call.len;
-        read_after(words[k], &bytes, &call.len);
-        files[call.count].len = call.len - files[call.count].start;
-        call.count++;
+    for (int k = first; k < count; k++, call.count++) {
+        uint8_t *file = NULL;
+        files[call.count].len = 0;
+        read_after(words[k], &file, &files[call.count].len);
+        files[call.count].bytes = file;
     }
-    call.bytes = bytes;
+    call.bytes = call.count > 0 ? files[0].bytes : NULL;
+    call.len = call.count > 0 ? files[0].len : 0;
     call.files = files;
     struct answer answer = answer_of(&call);
     printf("%u %" PRIu64 " %" PRIu64 " %" PRIu64 " %" PRIu64 " %u\n", (unsigned) answer.status, answer.outcome.length, answer.outcome.at,
            answer.outcome.file, answer.outcome.index, (unsigned) answer.outcome.rule);
     fwrite(answer.text, 1, answer.outcome.length, stdout);
     free(answer.text);
-    free(bytes);
+    for (size_t k = 0; k < call.count; k++)
+        free((uint8_t *) files[k].bytes);
     free(files);
     free(rules);
     return failed == 0 ? 0 : 1;
@@ -804,7 +795,7 @@ int main(int count, char **words) {
     check_rewrite();
     check_object_verdict();
     check_map();
-    check_extents();
+    check_files_apart();
     check_link();
     check_link_verdict();
     check_too_many();

@@ -283,13 +283,13 @@ static void line_of_map(const struct elfmap_file *file, const uint8_t *linked, s
 }
 
 static void mapped(const uint8_t *bytes, size_t len, const uint8_t *rules, size_t rules_len, uint32_t link, struct elfmap_outcome other) {
-    struct elfmap_extent files[] = {{0, len}};
+    struct elfmap_bytes files[] = {{bytes, len}};
     struct elfmap_options options = {0x400000, 0x1000, 0};
     struct elfmap_outcome plain, outcome;
     struct elfmap_file file;
-    uint32_t status = elfmap_map(bytes, len, files, 1, &options, rules, 0, third, ROOM, &plain);
+    uint32_t status = elfmap_map(files, 1, &options, rules, 0, third, ROOM, &plain);
     options.uses_rules = 1;
-    uint32_t ruled = elfmap_map(bytes, len, files, 1, &options, rules, rules_len, again, ROOM, &outcome);
+    uint32_t ruled = elfmap_map(files, 1, &options, rules, rules_len, again, ROOM, &outcome);
     if (ruled == ELFMAP_DONE) {
         holds(status == ELFMAP_DONE && plain.length <= outcome.length && memcmp(third, again, plain.length) == 0, "rules change the map");
         holds(link == ELFMAP_DONE || link == ELFMAP_TOO_LONG || link == ELFMAP_SMALL_ROOM || (link == ELFMAP_NOT_LINKED && other.rule == 10),
@@ -306,16 +306,16 @@ static void mapped(const uint8_t *bytes, size_t len, const uint8_t *rules, size_
 }
 
 static void linked(const uint8_t *bytes, size_t len) {
-    struct elfmap_extent files[] = {{0, len}};
+    struct elfmap_bytes files[] = {{bytes, len}};
     struct elfmap_options options = {0x400000, 0x1000, 1};
     static const uint8_t rules[] = "1 abs 8 wrap\n2 pc 4 signed\n4 pc 4 signed\n10 abs 4 unsigned\n11 abs 4 signed\n";
     struct elfmap_outcome outcome, second;
     struct elfmap_fault fault;
     const uint8_t *entry = (const uint8_t *) "answer";
-    uint32_t status = elfmap_link(bytes, len, files, 1, &options, entry, 6, rules, sizeof rules - 1, text, ROOM, &outcome);
-    uint32_t wanted = elfmap_link(bytes, len, files, 1, &options, entry, 6, rules, sizeof rules - 1, again, 0, &second);
+    uint32_t status = elfmap_link(files, 1, &options, entry, 6, rules, sizeof rules - 1, text, ROOM, &outcome);
+    uint32_t wanted = elfmap_link(files, 1, &options, entry, 6, rules, sizeof rules - 1, again, 0, &second);
     holds(wanted == (outcome.length > 0 ? ELFMAP_SMALL_ROOM : status) && second.length == outcome.length, "another length is wanted");
-    wanted = elfmap_link_verdict(bytes, len, files, 1, &options, entry, 6, rules, sizeof rules - 1, &second);
+    wanted = elfmap_link_verdict(files, 1, &options, entry, 6, rules, sizeof rules - 1, &second);
     holds(wanted == (status == ELFMAP_TOO_LONG ? ELFMAP_DONE : status) && second.length == 0 && second.rule == outcome.rule
               && second.file == outcome.file && second.index == outcome.index && second.at == outcome.at,
           "the verdict on the link is another");

@@ -735,7 +735,7 @@ def link(
 
     docs/RULE_FILES.md has the lines of rules. Raises BadRules, Refused, NotLinked or
     TooLong; and OverflowError where `base` or `page` is not from 0 to 2^64 - 1. The bytes
-    of the files are copied, for the time of the call.
+    of the files are not copied.
     """
     contents = _views_of(files)
     start = _text(entry, "entry")
@@ -805,14 +805,7 @@ def _linked(
     contents: list[memoryview], base: int, page: int, uses_rules: bool = True
 ) -> tuple[Any, ...]:
     options = _declared.Options(_number(base, "base"), _number(page, "page"), uses_rules)
-    places = (_declared.Extent * len(contents))()
-    start = 0
-    for place, content in zip(places, contents):
-        place.start = start
-        place.len = len(content)
-        start += len(content)
-    joined = b"".join(contents)
-    return joined, len(joined), places, len(contents), options
+    return _library.files_of(contents), len(contents), options
 
 
 def _views_of(files: Iterable[_Bytes]) -> list[memoryview]:

@@ -351,11 +351,11 @@ class Checks:
         them depend on other files: a name that is undefined here may be defined there.
         """
         outcome = _declared.Outcome()
-        file = (_declared.Extent * 1)(_declared.Extent(0, size))
+        file = (_declared.Bytes * 1)(_declared.Bytes(self._room.address, size))
         options = _declared.Options(0, 1, 0)
         entry = rules = _library.nowhere, 0
         status = self._library.elfmap_link_verdict(
-            self._room.address, size, file, 1, options, *entry, *rules, outcome
+            file, 1, options, *entry, *rules, outcome
         )
         if status == _declared.NO_MEMORY:
             raise Unreadable("there is no memory for its tables")

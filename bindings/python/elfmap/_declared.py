@@ -45,8 +45,6 @@ SMALL_ROOM = 4
 NO_MEMORY = 5
 # Line `at` of the relocation rules is bad, and none before it; lines count from 1.
 BAD_RULES = 6
-# The extent of file `file` does not lie in the bytes, and each before it does.
-BAD_FILES = 7
 
 
 class Fault(Structure):
@@ -190,6 +188,12 @@ class Note(Structure):
     _fields_ = [("name", Extent), ("desc", Extent), ("next", c_uint64), ("n_type", c_uint32)]
 
 
+class Bytes(Structure):
+    """A file of a link: its bytes in memory."""
+
+    _fields_ = [("bytes", c_void_p), ("len", c_size_t)]
+
+
 class Outcome(Structure):
     """What a call of an engine returns beside its status. Files, indexes and entries count from
     0."""
@@ -324,9 +328,7 @@ CALLS: dict[str, list[Any]] = {
     "elfmap_object_verdict": [c_uint32, c_void_p, c_size_t, POINTER(Outcome)],
     "elfmap_map": [
         c_uint32,
-        c_void_p,
-        c_size_t,
-        POINTER(Extent),
+        POINTER(Bytes),
         c_size_t,
         POINTER(Options),
         c_void_p,
@@ -337,9 +339,7 @@ CALLS: dict[str, list[Any]] = {
     ],
     "elfmap_link": [
         c_uint32,
-        c_void_p,
-        c_size_t,
-        POINTER(Extent),
+        POINTER(Bytes),
         c_size_t,
         POINTER(Options),
         c_void_p,
@@ -352,9 +352,7 @@ CALLS: dict[str, list[Any]] = {
     ],
     "elfmap_link_verdict": [
         c_uint32,
-        c_void_p,
-        c_size_t,
-        POINTER(Extent),
+        POINTER(Bytes),
         c_size_t,
         POINTER(Options),
         c_void_p,

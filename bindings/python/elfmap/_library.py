@@ -3,6 +3,7 @@
 import ctypes
 import functools
 import tempfile
+from collections.abc import Sequence
 from ctypes import POINTER, Structure, c_void_p
 from pathlib import Path
 
@@ -80,3 +81,8 @@ def address_of(view: memoryview) -> int:
         return buffer.buf or ctypes.addressof(nowhere)
     finally:
         release_buffer(buffer)
+
+
+def files_of(contents: Sequence[memoryview]) -> ctypes.Array[_declared.Bytes]:
+    """Where the bytes of each file of a link are, as long as its view is there."""
+    return (_declared.Bytes * len(contents))(*((address_of(it), len(it)) for it in contents))

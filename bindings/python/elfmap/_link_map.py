@@ -31,17 +31,13 @@ class Options(NamedTuple):
 
 
 class Link:
-    """The files of a link, whose bytes are held once."""
+    """The files of a link, whose bytes are not copied."""
 
     def __init__(self, contents: Sequence[bytes], options: Options) -> None:
         self._options = options
-        self._bytes = b"".join(contents)
-        self._places = (_declared.Extent * len(contents))()
-        start = 0
-        for place, content in zip(self._places, contents):
-            place.start = start
-            place.len = len(content)
-            start += len(content)
+        # The addresses of the files are those of their bytes as long as these views are there.
+        self._views = [memoryview(it) for it in contents]
+        self._files = _library.files_of(self._views)
 
     def refusal(self) -> Optional[Refusal]:
         """Why the files do not link, as `elfmap link` prints it; None if they do. Without an entry
@@ -74,10 +70,9 @@ class Link:
         outcome = _declared.Outcome()
         uses_rules = texts[-1] is not _NOTHING
         options = _declared.Options(self._options.base, self._options.page, uses_rules)
-        files = self._bytes, len(self._bytes), self._places, len(self._places)
         words = (it for text in (*texts, *([room] if room else [])) for it in text)
         call = getattr(_library.library(), name)
-        return call(*files, options, *words, outcome), outcome
+        return call(self._files, len(self._files), options, *words, outcome), outcome
 
     def bad_line(self) -> int:
         """The first line of the rules that is bad, from 1; 0 if there is none."""

@@ -2,7 +2,7 @@ use alloc::vec::Vec;
 use core::fmt;
 
 use crate::raw::engines::{self, Inputs};
-use crate::raw::{self, Extent, Fault, Outcome};
+use crate::raw::{self, Fault, Outcome};
 use crate::raw::{BAD_RULES, DONE, NOT_LINKED, REFUSED, SMALL_ROOM, TOO_LONG};
 use crate::refusal::{LinkRefusal, Refusal};
 use crate::{Error, File};
@@ -150,14 +150,13 @@ pub fn rewrite(bytes: &[u8]) -> Result<Vec<u8>, Failure> {
 }
 
 /// The executable of these objects, by the relocation rules of a text as `docs/RULE_FILES.md` has it.
-/// The bytes of the files are copied, for the time of the call.
+/// The bytes of the files are not copied.
 ///
 /// # Errors
 ///
 /// The first [`Failure`] of bad rules, refused files, and the link's rules; or out of memory.
 pub fn link(files: &[&[u8]], options: &Options<'_>, rules: &str) -> Result<Vec<u8>, Failure> {
-    let (bytes, places) = joined(files)?;
-    let inputs = inputs(&bytes, &places, options, rules);
+    let inputs = inputs(files, options, rules);
     said(|buffer| engines::link(&inputs, options.entry, buffer))
         .map_err(|(status, outcome, _)| failure(status, outcome))
 }
@@ -169,8 +168,7 @@ pub fn link(files: &[&[u8]], options: &Options<'_>, rules: &str) -> Result<Vec<u
 ///
 /// Those of [`link`].
 pub fn map(files: &[&[u8]], options: &Options<'_>, rules: &str) -> Result<Vec<u8>, Failure> {
-    let (bytes, places) = joined(files)?;
-    let inputs = inputs(&bytes, &places, options, rules);
+    let inputs = inputs(files, options, rules);
     said(|buffer| engines::map(&inputs, buffer))
         .map_err(|(status, outcome, _)| failure(status, outcome))
 }
@@ -222,32 +220,8 @@ fn failure(status: u32, outcome: Outcome) -> Failure {
     }
 }
 
-/// The bytes of all files, one after the other, and where each one is.
-fn joined(files: &[&[u8]]) -> Result<(Vec<u8>, Vec<Extent>), Failure> {
-    let (mut bytes, mut places) = (Vec::new(), Vec::new());
-    let len = files.iter().map(|it| it.len()).sum();
-    let is_there = bytes
-        .try_reserve_exact(len)
-        .and(places.try_reserve_exact(files.len()));
-    is_there.map_err(|_| Failure::OutOfMemory)?;
-    for file in files {
-        places.push(Extent {
-            start: bytes.len() as u64,
-            len: file.len() as u64,
-        });
-        bytes.extend_from_slice(file);
-    }
-    Ok((bytes, places))
-}
-
-fn inputs<'a>(
-    bytes: &'a [u8],
-    files: &'a [Extent],
-    options: &Options<'_>,
-    rules: &'a str,
-) -> Inputs<'a> {
+fn inputs<'a>(files: &'a [&'a [u8]], options: &Options<'_>, rules: &'a str) -> Inputs<'a> {
     Inputs {
-        bytes,
         files,
         options: raw::Options {
             base: options.base,

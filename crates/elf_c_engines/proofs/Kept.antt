@@ -2,15 +2,14 @@
 -- or empty. Either way a call of an engine is told it.
 use Rattle.std.proofs.Common.{◌≡◌, ◌∙◌, ◌<◌, ◌-◌, ◌^◌, ℕ, List, [], ◌∷◌, Some, Result, Ok, Err, MatchResult, arith, inl, inr, length, refl}
 use Rattle.std.proofs.Common.{subst, sym}
-use Rattle.elf_c_parts.specs.declared.room.Slot.{Slot}
 use Rattle.elf_tool_check.specs.Engine.{HasLength, IsMeasured, Prints}
 use Rattle.elf_tool_check.specs.declared.calls.Verdict.{Verdict}
 use Rattle.elf_tool_show.specs.Show.{IsShownOf, ShowSays}
 use Rattle.elf_c_engines.specs.declared.calls.CallFault.{CallFault}
-use Rattle.elf_c_engines.specs.declared.calls.CallFault.TheVariants.{BadRules, BadFiles, OutOfMemory}
+use Rattle.elf_c_engines.specs.declared.calls.CallFault.TheVariants.{OutOfMemory}
 use Rattle.elf_c_engines.specs.declared.calls.Outcome.{Outcome}
 use Rattle.elf_c_engines.specs.declared.said.Said.{Said}
-use Rattle.elf_c_engines.specs.Calls.{IsAnswered, IsEngineCall, IsSaid, IsUnkept, IsWantOfMemory, IsTold, LacksFile}
+use Rattle.elf_c_engines.specs.Calls.{IsAnswered, IsEngineCall, IsSaid, IsUnkept, IsTold}
 
 -- ---- all of it is kept
 
@@ -68,12 +67,6 @@ pub said_as : (P Q : Verdict → List ℕ → Type 0) (F G : CallFault → Type 
     MatchResult result (IsSaid Q most) G
 said_as P Q F G most (Ok said) into fails (text, says, long, kept) = (text, into said.verdict text says, long, kept)
 said_as P Q F G most (Err fault) into fails failed = fails fault failed
-
--- files are only lacking for want of memory, once they are found
-pub want_of_file : (b : List ℕ) (places : List Slot) (fault : CallFault) → IsWantOfMemory fault → LacksFile b places fault
-want_of_file b places OutOfMemory is = tt
-want_of_file b places (BadRules line) is = absurd is
-want_of_file b places (BadFiles file) is = absurd is
 
 -- ---- a call
 

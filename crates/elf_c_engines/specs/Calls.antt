@@ -1,15 +1,11 @@
 -- The calls of the library for C that run a command on files in memory.
-use Rattle.std.specs.Prelude.{◌≡◌, ◌<◌, ◌≤◌, ◌+◌, ◌-◌, ◌^◌, ℕ, List, [], ◌∷◌, ◌++◌, length, map, ◌≢◌, ◌⊎◌, None, Option, Some}
+use Rattle.std.specs.Prelude.{◌≡◌, ◌<◌, ◌≤◌, ◌-◌, ◌^◌, ℕ, List, [], ◌∷◌, ◌++◌, length, ◌≢◌, ◌⊎◌, None, Option, Some}
 use Rattle.std.specs.Prelude.{option_copied, drop, Result, Ok, Err}
-use Rattle.std.specs.List.{All}
-use Rattle.elf_c_engines.specs.declared.calls.CallFault.TheVariants.{BadRules, BadFiles, OutOfMemory}
+use Rattle.elf_c_engines.specs.declared.calls.CallFault.TheVariants.{BadRules, OutOfMemory}
 use Rattle.elf_c_engines.specs.declared.calls.CallFault.{CallFault}
 use Rattle.elf_c_engines.specs.declared.calls.Outcome.{Outcome}
 use Rattle.elf_c_engines.specs.declared.exports.LinkOptions.{LinkOptions}
 use Rattle.elf_c_engines.specs.declared.said.Said.{Said}
-use Rattle.elf_c_parts.specs.Slots.{extent_in}
-use Rattle.elf_c_parts.specs.declared.room.Slot.{Slot}
-use Rattle.elf_image_rules.specs.Tables.{bytes_in}
 use Rattle.elf_link_field.specs.declared.rule.RelocRule.{RelocRule}
 use Rattle.elf_link_files.specs.declared.fault.Options.{Options}
 use Rattle.elf_tool_link.specs.Link.{FilesLink}
@@ -21,44 +17,12 @@ use Rattle.elf_tool_check.specs.declared.calls.Refusal.TheVariants.{File, Link, 
 use Rattle.elf_tool_check.specs.declared.calls.Verdict.TheVariants.{Done, Refused}
 use Rattle.elf_tool_check.specs.declared.calls.Verdict.{Verdict}
 
--- Files that lie in bytes, by their extents.
-
--- an extent lies in so many bytes
-abbrev pub LiesWithin : ℕ → Slot → Type 0
-LiesWithin n place = place.start + place.len ≤ n
-
--- each extent lies in the bytes, and these are the bytes of each
-pub record AreFilesIn (b : List ℕ) (places : List Slot) (files : List (List ℕ)) : Type 0 where
-  pub within : All (LiesWithin (length b)) places
-  pub bytes : files ≡ map (λ place. bytes_in b (extent_in place)) places
-
--- the extent of file k passes the end of so many bytes, and none before it does
-pub record IsFirstOutside (n : ℕ) (places : List Slot) (k : ℕ) : Type 0 where
-  pub before : List Slot
-  pub place : Slot
-  pub behind : List Slot
-  pub places_are : places ≡ before ++ place ∷ behind
-  pub within : All (LiesWithin n) before
-  pub outside : n < place.start + place.len
-  pub index : k ≡ length before
-
--- What `map` and `link` make of files that lie in bytes, by the text of a file of relocation rules.
-
--- an engine says so of the files that lie in the bytes
-abbrev pub SaysOfFiles : (List (List ℕ) → Verdict → List ℕ → Type 0) → List ℕ → List Slot → Verdict → List ℕ → Type 0
-SaysOfFiles Says b places verdict text = (files : List (List ℕ)) × AreFilesIn b places files × Says files verdict text
-
--- or the first file doesn't that is reported, or an allocation failed
-abbrev pub LacksFile : List ℕ → List Slot → CallFault → Type 0
-LacksFile b places OutOfMemory = Unit {0}
-LacksFile b places (BadFiles file) = IsFirstOutside (length b) places file
-LacksFile b places (BadRules line) = ⊥
+-- What `map` and `link` make of files, by the text of a file of relocation rules.
 
 -- a text gives no relocation rules: the first line is reported that is bad, or an allocation failed
 abbrev pub LacksRules : List ℕ → CallFault → Type 0
 LacksRules rules OutOfMemory = Unit {0}
 LacksRules rules (BadRules line) = IsBadLine rules line
-LacksRules rules (BadFiles file) = ⊥
 
 -- ---- `map`
 
@@ -71,18 +35,15 @@ UsesRules options text rules =
     ((options.uses_rules ≡ 0) × (rules ≡ None))
     ⊎ ((options.uses_rules ≢ 0) × ((table : List RelocRule) × AreRules text table × (rules ≡ Some table)))
 
--- what it says by these rules of the files that lie in the bytes
-abbrev pub MapCallSays : List ℕ → List Slot → LinkOptions → List ℕ → Verdict → List ℕ → Type 0
-MapCallSays b places options text verdict lines =
-    (rules : Option (List RelocRule)) × UsesRules options text rules ×
-    SaysOfFiles (MapSays (map_options options) rules) b places verdict lines
+-- what it says by these rules of the files
+abbrev pub MapCallSays : List (List ℕ) → LinkOptions → List ℕ → Verdict → List ℕ → Type 0
+MapCallSays files options text verdict lines =
+    (rules : Option (List RelocRule)) × UsesRules options text rules × MapSays (map_options options) rules files verdict lines
 
--- why it says nothing: bad rules, which are looked at only where they are asked for; then a file that doesn't lie in the bytes
-abbrev pub MapCallFails : List ℕ → List Slot → LinkOptions → List ℕ → CallFault → Type 0
-MapCallFails b places options text OutOfMemory = Unit {0}
-MapCallFails b places options text (BadRules line) = (options.uses_rules ≢ 0) × IsBadLine text line
-MapCallFails b places options text (BadFiles file) =
-    ((rules : Option (List RelocRule)) × UsesRules options text rules) × IsFirstOutside (length b) places file
+-- why it says nothing: bad rules, which are looked at only where they are asked for
+abbrev pub MapCallFails : LinkOptions → List ℕ → CallFault → Type 0
+MapCallFails options text OutOfMemory = Unit {0}
+MapCallFails options text (BadRules line) = (options.uses_rules ≢ 0) × IsBadLine text line
 
 -- ---- `link`
 
@@ -90,17 +51,11 @@ MapCallFails b places options text (BadFiles file) =
 abbrev pub AreLinkOptions : LinkOptions → List ℕ → Options → Type 0
 AreLinkOptions options entry opt = (opt.base ≡ options.base) × (opt.page ≡ options.page) × (option_copied opt.entry ≡ Some entry)
 
--- what it says by the rules of a text of the files that lie in the bytes
-abbrev pub LinkCallSays : List ℕ → List Slot → LinkOptions → List ℕ → List ℕ → Verdict → List ℕ → Type 0
-LinkCallSays b places options entry text verdict file =
+-- what it says by the rules of a text of the files
+abbrev pub LinkCallSays : List (List ℕ) → LinkOptions → List ℕ → List ℕ → Verdict → List ℕ → Type 0
+LinkCallSays files options entry text verdict file =
     (rules : List RelocRule) × AreRules text rules
-    × ((opt : Options) × AreLinkOptions options entry opt × SaysOfFiles (FilesLink opt rules) b places verdict file)
-
--- why it says nothing: bad rules; then a file that doesn't lie in the bytes
-abbrev pub LinkCallFails : List ℕ → List Slot → List ℕ → CallFault → Type 0
-LinkCallFails b places text OutOfMemory = Unit {0}
-LinkCallFails b places text (BadRules line) = IsBadLine text line
-LinkCallFails b places text (BadFiles file) = ((rules : List RelocRule) × AreRules text rules) × IsFirstOutside (length b) places file
+    × ((opt : Options) × AreLinkOptions options entry opt × FilesLink opt rules files verdict file)
 
 -- How a call ends: its status, the numbers beside it, and what the buffer holds then.
 
@@ -119,7 +74,6 @@ small_room_status = 4
 abbrev pub fault_status : CallFault → ℕ
 fault_status OutOfMemory = 5
 fault_status (BadRules line) = 6
-fault_status (BadFiles file) = 7
 
 -- a length, and nothing beside it
 abbrev pub length_alone : ℕ → Outcome
@@ -132,11 +86,10 @@ verdict_numbers (Refused (File file rule at)) n = record { length = n; at = at; 
 verdict_numbers (Refused (Link rule file index entry)) n = record { length = n; at = entry; file = file; index = index; rule = rule }
 verdict_numbers (Refused TooLong) n = length_alone n
 
--- those of a call without output: which line is bad, or the extent of which file
+-- those of a call without output: which line is bad
 abbrev pub fault_numbers : CallFault → Outcome
 fault_numbers OutOfMemory = length_alone 0
 fault_numbers (BadRules line) = record { length = 0; at = line; file = 0; index = 0; rule = 0 }
-fault_numbers (BadFiles file) = record { length = 0; at = 0; file = file; index = 0; rule = 0 }
 
 -- the text fits: it is at the beginning of the buffer, whose other bytes are unchanged, and status and numbers are the verdict's
 pub record IsPutInto (verdict : Verdict) (text old new : List ℕ) (outcome : Outcome) (code : ℕ) : Type 0 where
@@ -199,7 +152,6 @@ IsAnswered (Err fault) old new outcome status = IsWithoutAnswer fault old new ou
 abbrev pub IsWantOfMemory : CallFault → Type 0
 IsWantOfMemory OutOfMemory = Unit {0}
 IsWantOfMemory (BadRules line) = ⊥
-IsWantOfMemory (BadFiles file) = ⊥
 
 -- Calls that return a verdict alone.
 
@@ -221,13 +173,12 @@ entry_named (x ∷ xs) = Some (x ∷ xs)
 abbrev pub AreVerdictOptions : LinkOptions → List ℕ → Options → Type 0
 AreVerdictOptions options entry opt = (opt.base ≡ options.base) × (opt.page ≡ options.page) × (option_copied opt.entry ≡ entry_named entry)
 
--- the verdict on the link of the files that lie in the bytes, by the rules of a text where the options ask for them
-abbrev pub LinkVerdictSays : List ℕ → List Slot → LinkOptions → List ℕ → List ℕ → Verdict → Type 0
-LinkVerdictSays b places options entry text verdict =
+-- the verdict on the link of the files, by the rules of a text where the options ask for them
+abbrev pub LinkVerdictSays : List (List ℕ) → LinkOptions → List ℕ → List ℕ → Verdict → Type 0
+LinkVerdictSays files options entry text verdict =
     (rules : Option (List RelocRule)) × UsesRules options text rules
-    × ((opt : Options) × AreVerdictOptions options entry opt
-    × ((files : List (List ℕ)) × AreFilesIn b places files × IsLinkVerdict opt rules files verdict))
+    × ((opt : Options) × AreVerdictOptions options entry opt × IsLinkVerdict opt rules files verdict)
 
 -- which has no length
-abbrev pub IsLinkVerdictAlone : List ℕ → List Slot → LinkOptions → List ℕ → List ℕ → Verdict → ℕ → Type 0
-IsLinkVerdictAlone b places options entry text verdict n = LinkVerdictSays b places options entry text verdict × (n ≡ 0)
+abbrev pub IsLinkVerdictAlone : List (List ℕ) → LinkOptions → List ℕ → List ℕ → Verdict → ℕ → Type 0
+IsLinkVerdictAlone files options entry text verdict n = LinkVerdictSays files options entry text verdict × (n ≡ 0)

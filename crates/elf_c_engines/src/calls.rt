@@ -1,12 +1,9 @@
-//! What the calls of the library for C have in common: files that they are given, and what they return.
-ghost use Rattle.std.specs.Prelude.{◌≡◌, ◌≤◌, ◌++◌, drop, length, ◌+◌, Some, None, MatchOption, MatchResult, map};
-ghost use Rattle.elf_c_engines.specs.Calls.{AreFilesIn, IsTold, LacksFile, LacksRules, LiesWithin, fault_numbers, fault_status};
+//! What the calls of the library for C have in common: the relocation rules that they are given, and what they return.
+ghost use Rattle.std.specs.Prelude.{◌≡◌, ◌≤◌, ◌++◌, drop, length, MatchResult};
+ghost use Rattle.elf_c_engines.specs.Calls.{IsTold, LacksRules, fault_numbers, fault_status};
 ghost use Rattle.elf_c_engines.specs.Calls.{length_alone, small_room_status, verdict_numbers, verdict_status};
-ghost use Rattle.elf_image_rules.specs.Tables.{bytes_in};
 ghost use Rattle.elf_tool_rule_file.specs.RuleFile.{AreRules};
-ghost use Rattle.elf_c_parts.specs.Slots.{extent_in};
 
-use elf_c_parts::Slot;
 use elf_link_field::RelocRule;
 use elf_tool_check::{Refusal, Verdict};
 use elf_tool_rule_file::{RulesFault, read_rules};
@@ -28,8 +25,6 @@ const SMALL_ROOM: u32 = 4;
 const NO_MEMORY: u32 = 5;
 
 const BAD_RULES: u32 = 6;
-
-const BAD_FILES: u32 = 7;
 
 /// `struct elfmap_outcome`: what a call reports beside its status. A number that says nothing is 0.
 #[repr(C)]
@@ -53,8 +48,6 @@ pub struct Outcome {
 pub(crate) enum CallFault {
     /// This line of the rules is bad, and none before it. Lines count from 1.
     BadRules { line: usize },
-    /// The extent of this file doesn't lie in the bytes, and each before it does. Files count from 0.
-    BadFiles { file: usize },
     /// An allocation failed.
     OutOfMemory,
 }
@@ -99,13 +92,6 @@ pub(crate) fn give_up(fault: CallFault, outcome: &mut Outcome) -> u32
             BAD_RULES,
             Outcome {
                 at: line as u64,
-                ..nothing
-            },
-        ),
-        CallFault::BadFiles { file } => (
-            BAD_FILES,
-            Outcome {
-                file: file as u64,
                 ..nothing
             },
         ),
@@ -168,41 +154,6 @@ fn numbers_of(verdict: Verdict, length: u64) -> Outcome
         },
         Verdict::Done | Verdict::Refused(Refusal::TooLong) => numbers,
     }
-}
-
-// The files and the relocation rules of a call.
-
-/// The bytes of each file, by their extents.
-pub(crate) fn files_in<'a>(
-    alloc: Global,
-    bytes: &'a [u8],
-    places: &[Slot],
-) -> Result<Vec<&'a [u8]>, CallFault>
-    ensures { MatchResult result (λ files. AreFilesIn bytes.entry.now places.now (map (λ f. f.now) files.items))
-        (LacksFile bytes.entry.now places.now) }
-{
-    let mut files = Vec::new(alloc);
-    for file in 0..places.len() {
-        let Some(content) = file_at(bytes, places[file]) else {
-            return Err(CallFault::BadFiles { file });
-        };
-        let Ok(()) = files.push(content) else {
-            return Err(CallFault::OutOfMemory);
-        };
-    }
-    Ok(files)
-}
-
-// The bytes of an extent; None if it doesn't lie in them.
-fn file_at(bytes: &[u8], place: Slot) -> Option<&[u8]>
-    ensures { MatchOption result (LiesWithin (length bytes.entry.now) place → ⊥)
-        (λ file. LiesWithin (length bytes.entry.now) place × (file.now ≡ bytes_in bytes.entry.now (extent_in place))) }
-{
-    let end = place.start.checked_add(place.len)?;
-    if end > bytes.len() as u64 {
-        return None;
-    }
-    Some(&bytes[place.start as usize..end as usize])
 }
 
 /// The relocation rules of a text.

@@ -2,15 +2,14 @@
 ghost use Rattle.std.specs.Prelude.{MatchResult, map, option_copied};
 ghost use Rattle.elf_tool_rewrite.specs.Rewrite.{RewriteSays};
 ghost use Rattle.elf_tool_show.specs.Show.{RefusedTablesSay, ShowSays};
-ghost use Rattle.elf_c_engines.specs.Calls.{IsEngineCall, IsSaid, IsWantOfMemory, AreLinkOptions, LacksFile, LinkCallFails, LinkCallSays};
-ghost use Rattle.elf_c_engines.specs.Calls.{MapCallFails, MapCallSays, SaysOfFiles, map_options};
+ghost use Rattle.elf_c_engines.specs.Calls.{IsEngineCall, IsSaid, IsWantOfMemory, AreLinkOptions, LacksRules, LinkCallSays, MapCallFails};
+ghost use Rattle.elf_c_engines.specs.Calls.{MapCallSays, map_options};
 ghost use Rattle.elf_tool_link.specs.Link.{FilesLink};
 ghost use Rattle.elf_tool_link.specs.Map.{MapSays};
 ghost use Rattle.elf_link_files.specs.declared.fault.Options.{Options as AnOptions};
 
-use crate::calls::{CallFault, Outcome, files_in, give_up, rules_in, small_room, tell};
+use crate::calls::{CallFault, Outcome, give_up, rules_in, small_room, tell};
 use crate::said::{Bounded, Said, answer};
-use elf_c_parts::Slot;
 use elf_link_field::RelocRule;
 use elf_link_map::Options;
 use elf_tool_check::ToolFault;
@@ -104,84 +103,78 @@ pub struct LinkOptions {
     pub uses_rules: u32,
 }
 
-/// What `elfmap map` writes of the files that lie in these bytes.
+/// What `elfmap map` writes of these files.
 #[unsafe(no_mangle)]
 pub extern "C" fn elfmap_map(
     alloc: Global,
-    bytes: &[u8],
-    files: &[Slot],
+    files: &[&[u8]],
     options: &LinkOptions,
     rules: &[u8],
     room: &mut [u8],
     outcome: &mut Outcome,
 ) -> u32
-    ensures { IsEngineCall (MapCallSays bytes.now files.now options.now rules.now) (MapCallFails bytes.now files.now options.now rules.now)
+    ensures { IsEngineCall (MapCallSays (map (λ f. f.now) files.now) options.now rules.now) (MapCallFails options.now rules.now)
         room.old room.new outcome.new result }
 {
-    let said = map_within(alloc, bytes, files, options, rules, room.len());
+    let said = map_within(alloc, files, options, rules, room.len());
     answer(said, room, outcome)
 }
 
-/// What `elfmap link` writes of the files that lie in these bytes.
+/// What `elfmap link` writes of these files.
 #[unsafe(no_mangle)]
 pub extern "C" fn elfmap_link(
     alloc: Global,
-    bytes: &[u8],
-    files: &[Slot],
+    files: &[&[u8]],
     options: &LinkOptions,
     entry: &[u8],
     rules: &[u8],
     room: &mut [u8],
     outcome: &mut Outcome,
 ) -> u32
-    ensures { IsEngineCall (LinkCallSays bytes.now files.now options.now entry.now rules.now) (LinkCallFails bytes.now files.now rules.now)
+    ensures { IsEngineCall (LinkCallSays (map (λ f. f.now) files.now) options.now entry.now rules.now) (LacksRules rules.now)
         room.old room.new outcome.new result }
 {
-    let said = link_within(alloc, bytes, files, options, entry, rules, room.len());
+    let said = link_within(alloc, files, options, entry, rules, room.len());
     answer(said, room, outcome)
 }
 
 // The text is kept if it has at most `most` bytes.
 fn map_within(
     alloc: Global,
-    bytes: &[u8],
-    files: &[Slot],
+    files: &[&[u8]],
     options: &LinkOptions,
     rules: &[u8],
     most: usize,
 ) -> Result<Said, CallFault>
-    ensures { MatchResult result (IsSaid (MapCallSays bytes.now files.now options.now rules.now) most)
-        (MapCallFails bytes.now files.now options.now rules.now) }
+    ensures { MatchResult result (IsSaid (MapCallSays (map (λ f. f.now) files.now) options.now rules.now) most)
+        (MapCallFails options.now rules.now) }
 {
     if options.uses_rules == 0 {
-        return map_by(alloc, bytes, files, options, None, most);
+        return map_by(alloc, files, options, None, most);
     }
     let table = rules_in(alloc, rules)?;
-    map_by(alloc, bytes, files, options, Some(table.as_slice()), most)
+    map_by(alloc, files, options, Some(table.as_slice()), most)
 }
 
 fn map_by(
     alloc: Global,
-    bytes: &[u8],
-    files: &[Slot],
+    files: &[&[u8]],
     options: &LinkOptions,
     rules: Option<&[RelocRule]>,
     most: usize,
 ) -> Result<Said, CallFault>
     ensures { MatchResult result
-        (IsSaid (SaysOfFiles (MapSays (map_options options.now) (option_copied rules.entry)) bytes.now files.now) most)
-        (LacksFile bytes.now files.now) }
+        (IsSaid (MapSays (map_options options.now) (option_copied rules.entry) (map (λ f. f.now) files.now)) most) IsWantOfMemory }
 {
-    let contents = files_in(alloc, bytes, files)?;
     let options = Options {
         base: options.base,
         page: options.page,
         entry: None,
     };
-    map_contents(alloc, contents.as_slice(), &options, rules, most)
+    map_of(alloc, files, &options, rules, most)
 }
 
-fn map_contents(
+fn map_of(
     alloc: Global,
     files: &[&[u8]],
     options: &Options<'_>,
@@ -209,24 +202,22 @@ fn map_contents(
 // The file is kept if it has at most `most` bytes.
 fn link_within(
     alloc: Global,
-    bytes: &[u8],
-    files: &[Slot],
+    files: &[&[u8]],
     options: &LinkOptions,
     entry: &[u8],
     rules: &[u8],
     most: usize,
 ) -> Result<Said, CallFault>
-    ensures { MatchResult result (IsSaid (LinkCallSays bytes.now files.now options.now entry.now rules.now) most)
-        (LinkCallFails bytes.now files.now rules.now) }
+    ensures { MatchResult result (IsSaid (LinkCallSays (map (λ f. f.now) files.now) options.now entry.now rules.now) most)
+        (LacksRules rules.now) }
 {
     let table = rules_in(alloc, rules)?;
-    link_by(alloc, bytes, files, options, entry, table.as_slice(), most)
+    link_by(alloc, files, options, entry, table.as_slice(), most)
 }
 
 fn link_by(
     alloc: Global,
-    bytes: &[u8],
-    files: &[Slot],
+    files: &[&[u8]],
     options: &LinkOptions,
     entry: &[u8],
     rules: &[RelocRule],
@@ -234,19 +225,18 @@ fn link_by(
 ) -> Result<Said, CallFault>
     ensures { MatchResult result
         (IsSaid (λ verdict file. (opt : AnOptions) × AreLinkOptions options.now entry.now opt
-        × SaysOfFiles (FilesLink opt rules.now) bytes.now files.now verdict file) most)
-        (LacksFile bytes.now files.now) }
+        × FilesLink opt rules.now (map (λ f. f.now) files.now) verdict file) most)
+        IsWantOfMemory }
 {
-    let contents = files_in(alloc, bytes, files)?;
     let options = Options {
         base: options.base,
         page: options.page,
         entry: Some(entry),
     };
-    link_contents(alloc, contents.as_slice(), &options, rules, most)
+    link_of(alloc, files, &options, rules, most)
 }
 
-fn link_contents(
+fn link_of(
     alloc: Global,
     files: &[&[u8]],
     options: &Options<'_>,

@@ -1,13 +1,12 @@
 //! The calls of the library for C that return the verdict of an engine, without its output.
-ghost use Rattle.std.specs.Prelude.{◌≡◌, ℕ, List, MatchResult, option_copied};
-ghost use Rattle.elf_c_engines.specs.Calls.{AreFilesIn, AreVerdictOptions, IsLinkVerdictAlone, IsObjectVerdict, IsVerdictCall};
-ghost use Rattle.elf_c_engines.specs.Calls.{IsWantOfMemory, LacksFile, LinkVerdictSays, MapCallFails, entry_named};
+ghost use Rattle.std.specs.Prelude.{◌≡◌, MatchResult, map, option_copied};
+ghost use Rattle.elf_c_engines.specs.Calls.{AreVerdictOptions, IsLinkVerdictAlone, IsObjectVerdict, IsVerdictCall, IsWantOfMemory};
+ghost use Rattle.elf_c_engines.specs.Calls.{LinkVerdictSays, MapCallFails, entry_named};
 ghost use Rattle.elf_link_files.specs.declared.fault.Options.{Options as AnOptions};
 ghost use Rattle.elf_tool_link.specs.Verdicts.{IsLinkVerdict};
 
-use crate::calls::{CallFault, Outcome, files_in, give_up, rules_in, verdict_alone};
+use crate::calls::{CallFault, Outcome, give_up, rules_in, verdict_alone};
 use crate::exports::LinkOptions;
-use elf_c_parts::Slot;
 use elf_link_field::RelocRule;
 use elf_link_map::Options;
 use elf_tool_check::Verdict;
@@ -27,22 +26,20 @@ pub extern "C" fn elfmap_object_verdict(alloc: Global, bytes: &[u8], outcome: &m
     }
 }
 
-/// Whether the files that lie in these bytes link; otherwise the first file that is refused, or the first rule of the link broken.
+/// Whether these files link; otherwise the first file that is refused, or the first rule of the link broken.
 #[unsafe(no_mangle)]
 pub extern "C" fn elfmap_link_verdict(
     alloc: Global,
-    bytes: &[u8],
-    files: &[Slot],
+    files: &[&[u8]],
     options: &LinkOptions,
     entry: &[u8],
     rules: &[u8],
     outcome: &mut Outcome,
 ) -> u32
-    ensures { IsVerdictCall (IsLinkVerdictAlone bytes.now files.now options.now entry.now rules.now)
-        (MapCallFails bytes.now files.now options.now rules.now)
-        outcome.new result }
+    ensures { IsVerdictCall (IsLinkVerdictAlone (map (λ f. f.now) files.now) options.now entry.now rules.now)
+        (MapCallFails options.now rules.now) outcome.new result }
 {
-    match verdict_on(alloc, bytes, files, options, entry, rules) {
+    match verdict_on(alloc, files, options, entry, rules) {
         Ok(verdict) => verdict_alone(verdict, 0, outcome),
         Err(fault) => give_up(fault, outcome),
     }
@@ -50,43 +47,39 @@ pub extern "C" fn elfmap_link_verdict(
 
 fn verdict_on(
     alloc: Global,
-    bytes: &[u8],
-    files: &[Slot],
+    files: &[&[u8]],
     options: &LinkOptions,
     entry: &[u8],
     rules: &[u8],
 ) -> Result<Verdict, CallFault>
-    ensures { MatchResult result (LinkVerdictSays bytes.now files.now options.now entry.now rules.now)
-        (MapCallFails bytes.now files.now options.now rules.now) }
+    ensures { MatchResult result (LinkVerdictSays (map (λ f. f.now) files.now) options.now entry.now rules.now)
+        (MapCallFails options.now rules.now) }
 {
     if options.uses_rules == 0 {
-        return verdict_by(alloc, bytes, files, options, entry, None);
+        return verdict_by(alloc, files, options, entry, None);
     }
     let table = rules_in(alloc, rules)?;
-    verdict_by(alloc, bytes, files, options, entry, Some(table.as_slice()))
+    verdict_by(alloc, files, options, entry, Some(table.as_slice()))
 }
 
 fn verdict_by(
     alloc: Global,
-    bytes: &[u8],
-    files: &[Slot],
+    files: &[&[u8]],
     options: &LinkOptions,
     entry: &[u8],
     rules: Option<&[RelocRule]>,
 ) -> Result<Verdict, CallFault>
     ensures { MatchResult result
         (λ verdict. (opt : AnOptions) × AreVerdictOptions options.now entry.now opt
-        × ((files_are : List (List ℕ)) × AreFilesIn bytes.now files.now files_are
-        × IsLinkVerdict opt (option_copied rules.entry) files_are verdict))
-        (LacksFile bytes.now files.now) }
+        × IsLinkVerdict opt (option_copied rules.entry) (map (λ f. f.now) files.now) verdict)
+        IsWantOfMemory }
 {
-    let contents = files_in(alloc, bytes, files)?;
     let options = Options {
         base: options.base,
         page: options.page,
         entry: named(entry),
     };
-    match link_verdict(alloc, contents.as_slice(), &options, rules) {
+    match link_verdict(alloc, files, &options, rules) {
         Ok(verdict) => Ok(verdict),
         Err(_) => Err(CallFault::OutOfMemory),
     }

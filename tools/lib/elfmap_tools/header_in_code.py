@@ -10,8 +10,9 @@ from .header import HIGHEST, NUMBERS, Call, Constant, Struct, Type, class_name, 
 
 COLUMNS = 100
 MADE = "What include/elfmap.h declares. Made by `tools/release tables` from it, not edited by hand."
-# What the crate for Rust has above its structs.
+# What the crate for Rust has above its structs, and above those with pointers.
 DERIVED = "#[derive(Clone, Copy, Debug, Default, PartialEq, Eq, Hash)]"
+DERIVED_OF_POINTERS = DERIVED.replace("Default, ", "")
 # The greatest number that differs from the next one in JavaScript.
 MOST_WHOLE = 2**53 - 1
 # The names of two records there: its `Section` and `Segment` have more than the record.
@@ -77,10 +78,11 @@ def rust_constant(it: Constant) -> Iterator[str]:
 def rust_struct(struct: Struct) -> Iterator[str]:
     """The lines of a struct."""
     yield from filled(struct.words, "/// ")
-    yield from (DERIVED, "#[repr(C)]", f"pub struct {rust_name(struct.tag)} {{")
+    yield DERIVED_OF_POINTERS if struct.has_pointer() else DERIVED
+    yield from ("#[repr(C)]", f"pub struct {rust_name(struct.tag)} {{")
     for it in struct.fields:
         yield from filled(sentence(it.words), "    /// ") if it.words else ()
-        yield f"    pub {it.name}: {rust_type(it.type)},"
+        yield f"    pub {it.name}: {rust_type(it.type, is_slice=True)},"
     yield "}"
 
 
@@ -131,7 +133,7 @@ def python_struct(struct: Struct) -> Iterator[str]:
     yield f"class {class_name(struct.tag)}(Structure):"
     yield from filled(f'"""{struct.words}"""', "    ")
     yield ""
-    fields = [f'("{it.name}", {python_type(it.type)})' for it in struct.fields]
+    fields = [f'("{it.name}", {python_type(it.type, is_slice=True)})' for it in struct.fields]
     yield from listed("_fields_ = [", fields, "]")
 
 

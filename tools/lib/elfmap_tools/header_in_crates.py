@@ -9,6 +9,8 @@ from .tree import LIBRARIES_OF, read_text, texts_of
 
 # The numbers of Rattle, as C has them.
 IN_C = {rattle: name for name, rattle in NUMBERS.items()}
+# The struct of C for a slice of bytes, where there are many of them. Crates have no struct for it.
+SLICE = f"{PREFIX}bytes"
 # The comment on a struct begins with its tag.
 STRUCT = re.compile(
     rf"^/// `struct ({PREFIX}\w+)`.*\n#\[repr\(C\)\]\n(?:#.*\n)*pub struct (\w+) \{{\n([^}}]*)\}}",
@@ -31,8 +33,8 @@ def text_of_crates() -> str:
 
 def type_of(kind: str, tags: dict[str, str]) -> Type:
     """A type of Rattle as C has it, with the tags of structs by their names."""
-    ((borrow, name, length),) = TYPE.findall(kind)
-    own = IN_C.get(name) or tags[name]
+    ((borrow, name, length),) = TYPE.findall(kind.replace("&[&[u8]]", f"&[{SLICE}]"))
+    own = IN_C.get(name) or tags.get(name, name)
     return Type(own, bool(borrow), borrow == "&", int(length or 0))
 
 
@@ -48,7 +50,7 @@ def compare_structs(tally: Tally, text: str, tags: dict[str, str]) -> None:
     """The structs of the crates are those of the header."""
     found = STRUCT.findall(text)
     declared = {it.tag: it.fields for it in of_library().structs}
-    tally.same("the structs for C", set(tags.values()), set(declared))
+    tally.same("the structs for C", {*tags.values(), SLICE}, set(declared))
     tally.same("the structs for C that have a tag", len(found), text.count("#[repr(C)]"))
     for tag, name, body in found:
         fields = [(field, type_of(kind, tags)) for field, kind in FIELD.findall(body)]

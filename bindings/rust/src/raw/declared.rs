@@ -48,9 +48,6 @@ pub const NO_MEMORY: u32 = 5;
 /// Line `at` of the relocation rules is bad, and none before it; lines count from 1.
 pub const BAD_RULES: u32 = 6;
 
-/// The extent of file `file` does not lie in the bytes, and each before it does.
-pub const BAD_FILES: u32 = 7;
-
 /// The first of the rules 1 to 33 that a file breaks.
 #[derive(Clone, Copy, Debug, Default, PartialEq, Eq, Hash)]
 #[repr(C)]
@@ -265,6 +262,16 @@ pub struct Note {
     /// Where the next note begins, in bytes from the beginning of the section.
     pub next: u64,
     pub n_type: u32,
+}
+
+/// A file of a link: its bytes in memory.
+#[derive(Clone, Copy, Debug, PartialEq, Eq, Hash)]
+#[repr(C)]
+pub struct Bytes {
+    /// The first one; it may be null where there is none.
+    pub bytes: *const u8,
+    /// How many they are.
+    pub len: usize,
 }
 
 /// What a call of an engine returns beside its status. Files, indexes and entries count from 0.
@@ -505,9 +512,7 @@ extern "C" {
     ) -> u32;
     pub fn elfmap_object_verdict(bytes: *const u8, len: usize, outcome: &mut Outcome) -> u32;
     pub fn elfmap_map(
-        bytes: *const u8,
-        len: usize,
-        files: *const Extent,
+        files: *const Bytes,
         count: usize,
         options: &Options,
         rules: *const u8,
@@ -517,9 +522,7 @@ extern "C" {
         outcome: &mut Outcome,
     ) -> u32;
     pub fn elfmap_link(
-        bytes: *const u8,
-        len: usize,
-        files: *const Extent,
+        files: *const Bytes,
         count: usize,
         options: &Options,
         entry: *const u8,
@@ -531,9 +534,7 @@ extern "C" {
         outcome: &mut Outcome,
     ) -> u32;
     pub fn elfmap_link_verdict(
-        bytes: *const u8,
-        len: usize,
-        files: *const Extent,
+        files: *const Bytes,
         count: usize,
         options: &Options,
         entry: *const u8,

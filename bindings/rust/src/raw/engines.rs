@@ -2,8 +2,8 @@
 //! above.
 
 use super::{
-    elfmap_link, elfmap_map, elfmap_rewrite, elfmap_show, elfmap_table_verdicts, Extent, Fault,
-    Options, Outcome,
+    elfmap_link, elfmap_map, elfmap_rewrite, elfmap_show, elfmap_table_verdicts, Bytes, Fault,
+    Options, Outcome, NO_MEMORY,
 };
 
 pub(crate) fn show(bytes: &[u8], buffer: &mut [u8]) -> (u32, Outcome) {
@@ -31,29 +31,45 @@ pub(crate) fn rewrite(bytes: &[u8], buffer: &mut [u8]) -> (u32, Outcome) {
     (status, outcome)
 }
 
-/// What a link takes: files as extents of bytes, options, and the text of the relocation rules.
+/// Where the bytes of each file of a link are; None if there is no memory to say it.
+fn bytes_of(files: &[&[u8]]) -> Option<Vec<Bytes>> {
+    let mut found = Vec::new();
+    found.try_reserve_exact(files.len()).ok()?;
+    found.extend(files.iter().map(|file| Bytes {
+        bytes: file.as_ptr(),
+        len: file.len(),
+    }));
+    Some(found)
+}
+
+/// The answer of an engine that is not called, because there is no memory.
+fn no_memory() -> (u32, Outcome) {
+    (NO_MEMORY, Outcome::default())
+}
+
+/// What a link takes: files, options, and the text of the relocation rules.
 #[derive(Clone, Copy)]
 pub(crate) struct Inputs<'a> {
-    pub bytes: &'a [u8],
-    pub files: &'a [Extent],
+    pub files: &'a [&'a [u8]],
     pub options: Options,
     pub rules: &'a [u8],
 }
 
 pub(crate) fn map(inputs: &Inputs<'_>, buffer: &mut [u8]) -> (u32, Outcome) {
     let Inputs {
-        bytes,
         files,
         options,
         rules,
     } = inputs;
+    let files = match bytes_of(files) {
+        Some(files) => files,
+        None => return no_memory(),
+    };
     let mut outcome = Outcome::default();
-    // SAFETY: four slices, of which the buffer is borrowed as `&mut`, what is borrowed as `&`, and
+    // SAFETY: three slices, one of them of slices that live as long as `inputs`, of which the buffer is borrowed as `&mut`, what is borrowed as `&`, and
     // what only this call sees.
     let status = unsafe {
         elfmap_map(
-            bytes.as_ptr(),
-            bytes.len(),
             files.as_ptr(),
             files.len(),
             options,
@@ -69,18 +85,19 @@ pub(crate) fn map(inputs: &Inputs<'_>, buffer: &mut [u8]) -> (u32, Outcome) {
 
 pub(crate) fn link(inputs: &Inputs<'_>, entry: &[u8], buffer: &mut [u8]) -> (u32, Outcome) {
     let Inputs {
-        bytes,
         files,
         options,
         rules,
     } = inputs;
+    let files = match bytes_of(files) {
+        Some(files) => files,
+        None => return no_memory(),
+    };
     let mut outcome = Outcome::default();
-    // SAFETY: five slices, of which the buffer is borrowed as `&mut`, what is borrowed as `&`, and
+    // SAFETY: four slices, one of them of slices that live as long as `inputs`, of which the buffer is borrowed as `&mut`, what is borrowed as `&`, and
     // what only this call sees.
     let status = unsafe {
         elfmap_link(
-            bytes.as_ptr(),
-            bytes.len(),
             files.as_ptr(),
             files.len(),
             options,

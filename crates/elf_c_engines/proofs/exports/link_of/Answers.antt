@@ -2,7 +2,7 @@ use Rattle.std.proofs.Common.{map}
 use Rattle.elf_tool_link.specs.Link.{FilesLink}
 use Rattle.elf_c_engines.specs.Calls.{IsWantOfMemory}
 use Rattle.elf_c_engines.proofs.Kept.{exact_told, said_text, whole_said}
-use Rattle.elf_c_engines.proofs.exports.link_contents.Goals as goal
+use Rattle.elf_c_engines.proofs.exports.link_of.Goals as goal
 
 pub returns-in-Ok : goal.returns-in-Ok
 returns-in-Ok c =
