@@ -354,9 +354,7 @@ class Checks:
         file = (_declared.Bytes * 1)(_declared.Bytes(self._room.address, size))
         options = _declared.Options(0, 1, 0)
         entry = rules = _library.nowhere, 0
-        status = self._library.elfmap_link_verdict(
-            file, 1, options, *entry, *rules, outcome
-        )
+        status = self._library.elfmap_link_verdict(file, 1, options, *entry, *rules, outcome)
         if status == _declared.NO_MEMORY:
             raise Unreadable("there is no memory for its tables")
         if status != _declared.NOT_LINKED or outcome.rule not in OF_ONE_FILE:

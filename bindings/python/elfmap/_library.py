@@ -85,4 +85,5 @@ def address_of(view: memoryview) -> int:
 
 def files_of(contents: Sequence[memoryview]) -> ctypes.Array[_declared.Bytes]:
     """Where the bytes of each file of a link are, as long as its view is there."""
-    return (_declared.Bytes * len(contents))(*((address_of(it), len(it)) for it in contents))
+    found = (_declared.Bytes(address_of(it), len(it)) for it in contents)
+    return (_declared.Bytes * len(contents))(*found)

@@ -34,7 +34,7 @@ def text_of_crates() -> str:
 def type_of(kind: str, tags: dict[str, str]) -> Type:
     """A type of Rattle as C has it, with the tags of structs by their names."""
     ((borrow, name, length),) = TYPE.findall(kind.replace("&[&[u8]]", f"&[{SLICE}]"))
-    own = IN_C.get(name) or tags.get(name, name)
+    own = IN_C.get(name, tags.get(name, name))
     return Type(own, bool(borrow), borrow == "&", int(length or 0))
 
 

@@ -20,4 +20,5 @@ returns c =
     let table = c.as_slice.result.now in
     let used : UsesRules c.args.options.now c.args.rules.now (Some table) =
     inr (c.if-options-eq0.false, (table, rw c.as_slice.ensures.value c.in_ok-table.ensures, refl)) in
-    said_as _ _ _ _ _ c.map_by-2.result (λ v t says. (Some table, used, says)) (fails c.args.options.now c.args.rules.now) c.map_by-2.ensures
+    said_as _ _ _ _ _ c.map_by-2.result (λ v t says. (Some table, used, says))
+    (fails c.args.options.now c.args.rules.now) c.map_by-2.ensures

@@ -1,4 +1,5 @@
--- The verdict by the rules of a text is one by the table that the text gives, and the verdict without rules is one where none are asked for.
+-- The verdict by the rules of a text is one by the table that the text gives, and the verdict without rules is one where none are asked
+-- for.
 use Rattle.std.proofs.Common.{ℕ, List, None, Option, Some, Result, Ok, Err, MatchResult, arith, inl, inr, refl}
 use Rattle.elf_link_field.specs.declared.rule.RelocRule.{RelocRule}
 use Rattle.elf_link_files.specs.declared.fault.Options.{Options}
