@@ -152,7 +152,7 @@ impl LineEnd {
         let start = self.start - 2 * bytes.len();
         match hex::encode_to_slice(bytes, &mut self.bytes[start..self.start]) {
             Ok(()) => self.start = start,
-            // There is a place for each digit.
+            // Its only error is a buffer of another length, and there is a place for each digit.
             Err(_) => unreachable!(),
         }
     }

@@ -153,7 +153,7 @@ fn pass_block<W: Write>(bytes: &[u8], output: &mut Output, writer: &mut W) -> Re
     let digits = &mut block[..2 * bytes.len()];
     match hex::encode_to_slice(bytes, digits) {
         Ok(()) => output.pass(writer, digits),
-        // There is a place for each digit.
+        // Its only error is a buffer of another length, and there is a place for each digit.
         Err(_) => unreachable!(),
     }
 }

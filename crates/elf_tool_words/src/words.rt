@@ -176,6 +176,7 @@ pub fn read_words<'a, S: AsStr>(alloc: Global, words: &'a [S]) -> Result<Request
 {
     let matches = matches_of(alloc, words)?;
     let Some((name, inner)) = matches.subcommand() else {
+        // clap takes no words without a command: the definition asks for one.
         unreachable!()
     };
     request_of(alloc, name, inner)
@@ -213,6 +214,7 @@ fn request_of<'a>(
         }),
         "map" => map_request(alloc, matches),
         "link" => link_request(alloc, matches),
+        // A match on text has an arm for the rest, and the definition has no other command.
         _ => unreachable!(),
     }
 }
