@@ -5,8 +5,8 @@ use Rattle.std.specs.Ordering.{nat_cmp}
 use Rattle.elf_image_outline.specs.Image.{ImageValue}
 use Rattle.elf_image_rules.specs.Rows.{HaveOneFault, Ruled, fault_of, FirstIn}
 use Rattle.elf_image_rules.specs.Rows.{Broken}
-use Rattle.elf_image_stream.specs.declared.fault.Fault.TheVariants.{OutOfMemory, Io, Rule}
-use Rattle.elf_image_stream.specs.declared.fault.Fault.{Fault}
+use Rattle.elf_image_stream.specs.declared.fault.BytesFault.TheVariants.{OutOfMemory, Rule}
+use Rattle.elf_image_stream.specs.declared.fault.BytesFault.{BytesFault}
 use Rattle.elf_table_all.specs.declared.tables.Tables.TheInside.{Inside}
 use Rattle.elf_table_all.specs.declared.verdicts.AllIndexTables.{AllIndexTables}
 use Rattle.elf_table_hash.specs.HashRules.{hash_table_rules}
@@ -40,19 +40,11 @@ table_rules f i = rules_of_kind (kind_of (section f i).sh_type) f i
 
 -- A validation that may take memory, as a verdict.
 
--- nothing was read for it
-abbrev pub IsUnread : {T : Type 0} → Result T Fault → Type 0
-IsUnread (Ok _) = Unit {0}
-IsUnread (Err (Rule rule at)) = Unit {0}
-IsUnread (Err OutOfMemory) = Unit {0}
-IsUnread (Err (Io at)) = ⊥
-
 -- the verdict is the rule that it reports, or that it reports none
-abbrev pub IsVerdictOf : {S T : Type 0} → Result S Fault → Result T (Broken ℕ) → Type 0
+abbrev pub IsVerdictOf : {S T : Type 0} → Result S BytesFault → Result T (Broken ℕ) → Type 0
 IsVerdictOf (Ok _) verdict = fault_of verdict ≡ None
 IsVerdictOf (Err (Rule rule at)) verdict = fault_of verdict ≡ Some (rule, at)
 IsVerdictOf (Err OutOfMemory) verdict = ⊥
-IsVerdictOf (Err (Io at)) verdict = ⊥
 
 -- The verdicts on all tables of a file.
 

@@ -2,13 +2,13 @@
 ghost use Rattle.std.specs.Prelude.{◌≡◌, ◌≢◌, ℕ, IfOk, OnOk, length, ◌<◌, Some};
 ghost use Rattle.elf_table_symbols.specs.Symbols.{noted, symbol_table_rules, AreSymbolVerdicts};
 ghost use Rattle.elf_table_symbols.specs.Sections.{sections_of, section, kind_of};
-ghost use Rattle.elf_table_all.specs.Tables.{AreAllIndexTables, index_tables_at, table_rules, AreVerdicts, IsUnread, IsVerdictOf};
+ghost use Rattle.elf_table_all.specs.Tables.{AreAllIndexTables, index_tables_at, table_rules, AreVerdicts, IsVerdictOf};
 ghost use Rattle.elf_image_rules.specs.Rows.{fault_of, FirstIn};
 ghost use Rattle.elf_table_symbols.specs.declared.table_section.TableKind.TheVariants as kind;
 
 use elf_field::abi::*;
 use elf_image_rules::Broken;
-use elf_image_stream::Fault;
+use elf_image_stream::BytesFault;
 use elf_image_type::Image;
 use elf_table_hash::{NameHashes, validate_hash_table};
 use elf_table_lists::{
@@ -150,15 +150,12 @@ fn table_verdict(
 }
 
 // What a test of a table returned, as a verdict; out of memory aside.
-fn verdict_of(validated: Result<(), Fault>) -> Result<Result<(), Broken<u64>>, AllocError>
-    requires { IsUnread validated }
+fn verdict_of(validated: Result<(), BytesFault>) -> Result<Result<(), Broken<u64>>, AllocError>
     ensures { IfOk result (IsVerdictOf validated) }
 {
     match validated {
         Ok(()) => Ok(Ok(())),
-        Err(Fault::Rule { rule, at }) => Ok(Err(Broken::new(rule, at))),
-        Err(Fault::OutOfMemory) => Err(AllocError),
-        // Nothing is read.
-        Err(Fault::Io { .. }) => unreachable!(),
+        Err(BytesFault::Rule { rule, at }) => Ok(Err(Broken::new(rule, at))),
+        Err(BytesFault::OutOfMemory) => Err(AllocError),
     }
 }

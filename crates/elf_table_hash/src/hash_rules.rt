@@ -5,7 +5,7 @@ ghost use Rattle.elf_image_rules.specs.Rows.{fault_of, FirstIn};
 ghost use Rattle.elf_table_hash.specs.HashRules.{hash_parts_value, hash_word_past_end, word_rules, hash_parts, chain_rules, hash_rules};
 ghost use Rattle.elf_table_hash.specs.HashRules.{hash_table_front, hash_table_rules, symbol_off_chain};
 ghost use Rattle.elf_table_hash.specs.HashTable.{AreHashWords, bucket, bucket_of, hash_of, name_of, nbucket, nchain};
-ghost use Rattle.elf_table_symbols.specs.Verdicts.{IsValidatedBehind};
+ghost use Rattle.elf_table_symbols.specs.Verdicts.{IsTestedBehind};
 ghost use Rattle.elf_table_symbols.specs.Symbols.{AreKnown, symbol_table_rules};
 ghost use Rattle.elf_table_symbols.specs.Sections.{content, own_rules, section, sections_of};
 ghost use Rattle.elf_table_hash.specs.ChainDepths.{IsDepthKnown};
@@ -16,7 +16,7 @@ use crate::hash_parts::HashParts;
 use crate::name_hashes::NameHashes;
 use elf_field::abi::*;
 use elf_image_rules::Broken;
-use elf_image_stream::Fault;
+use elf_image_stream::BytesFault;
 use elf_image_type::strings::string_at;
 use elf_table_symbols::rules::*;
 use elf_table_symbols::{LinkedTable, SymbolVerdicts, TableKind, TableSection, validate_own_rules};
@@ -66,19 +66,19 @@ fn lowest_hash_word_past_end(parts: &HashParts<'_>) -> Option<u64>
     None
 }
 
-/// All rules of a hash table, by these verdicts on the symbol tables, and by the hashes of the image's names. [`Fault::OutOfMemory`] comes
-/// only if no rule from 40 to 67 is broken.
+/// All rules of a hash table, by these verdicts on the symbol tables, and by the hashes of the image's names.
+/// [`BytesFault::OutOfMemory`] comes only if no rule from 40 to 67 is broken.
 #[tactic(auto, unfolding(crate::specs::HashRules::hash_table_rules, crate::specs::HashRules::hash_table_front))]
 pub fn validate_hash_table(
     alloc: Global,
     table: TableSection<'_, '_>,
     symbols: SymbolVerdicts<'_>,
     hashes: &mut NameHashes<'_, '_>,
-) -> Result<(), Fault>
+) -> Result<(), BytesFault>
     requires known { AreKnown (sections_of table.image.now) symbols }
     requires own_hashes { hashes.old ≡ sections_of table.image.now }
     ensures validated { let f = sections_of table.entry.image.now in
-        IsValidatedBehind (hash_table_front f table.entry.index) (hash_table_rules f table.entry.index) (λ _. ⊤) result }
+        IsTestedBehind (hash_table_front f table.entry.index) (hash_table_rules f table.entry.index) (λ _. ⊤) result }
     ensures image { hashes.new ≡ hashes.old }
 {
     validate_own_rules(table, TableKind::HashTable)?;
@@ -88,19 +88,19 @@ pub fn validate_hash_table(
 }
 
 /// Rules 65 to 69 of a hash table whose section header breaks no rule, as the symbol table that it links to.
-/// [`Fault::OutOfMemory`] comes only if none of 65 to 67 is broken.
+/// [`BytesFault::OutOfMemory`] comes only if none of 65 to 67 is broken.
 #[tactic(auto, unfolding(crate::specs::HashRules::hash_rules))]
 fn validate_hash(
     alloc: Global,
     linked: LinkedTable<'_, '_>,
     hashes: &mut NameHashes<'_, '_>,
-) -> Result<(), Fault>
+) -> Result<(), BytesFault>
     requires own { FirstIn (own_rules TableKind.HashTable (sections_of linked.table.image.now) linked.table.index) None }
     requires symbols { let f = sections_of linked.table.image.now in
         FirstIn (symbol_table_rules f (section f linked.table.index).sh_link) None }
     requires own_hashes { hashes.old ≡ sections_of linked.table.image.now }
     ensures validated { let f = sections_of linked.entry.table.image.now in let i = linked.entry.table.index in
-        IsValidatedBehind (word_rules (hash_parts f i)) (hash_rules f i) (λ _. ⊤) result }
+        IsTestedBehind (word_rules (hash_parts f i)) (hash_rules f i) (λ _. ⊤) result }
     ensures image { hashes.new ≡ hashes.old }
 {
     let parts = HashParts::new(linked);

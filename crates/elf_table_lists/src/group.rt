@@ -1,8 +1,9 @@
 //! Section groups (gABI chapter 4, Section Groups).
 ghost use Rattle.std.specs.Prelude.{◌≡◌, ◌<◌, IfErr, None, length, slice_index, ◌↔◌, ◌+◌, ◌*◌, ◌%◌, IfOk, IsTrue, OnErr};
+ghost use Rattle.elf_image_stream.specs.declared.fault.BytesFault.TheVariants.{OutOfMemory as NoRoom};
 ghost use Rattle.elf_image_stream.specs.declared.fault.Fault.TheVariants.{OutOfMemory};
 ghost use Rattle.elf_image_rules.specs.Rows.{FirstIn, fault_of};
-ghost use Rattle.elf_table_symbols.specs.Verdicts.{IsValidatedBehind, IsOnlyValidatedBehind, OfItsFile};
+ghost use Rattle.elf_table_symbols.specs.Verdicts.{IsTestedBehind, IsValidatedBehind, IsOnlyValidatedBehind, OfItsFile};
 ghost use Rattle.elf_table_symbols.specs.Sections.{content, order, sections_of, Below, section};
 ghost use Rattle.elf_table_lists.specs.Groups.{group_section_front, group_section_rules, MembersAscend, group_of, IsUnfit, IsWrongMember};
 ghost use Rattle.elf_table_lists.specs.Groups.{group_front_rules, group_rules, member as member_of, member_count as member_count_of};
@@ -13,7 +14,7 @@ ghost use Rattle.elf_table_symbols.specs.Symbols.{AreKnown};
 use elf_field::Order;
 use elf_field::abi::*;
 use elf_image_rules::Broken;
-use elf_image_stream::Fault;
+use elf_image_stream::{BytesFault, Fault};
 use elf_image_type::Image;
 use elf_table_symbols::rules::*;
 use elf_table_symbols::{
@@ -167,20 +168,20 @@ impl<'s, 'a> Iterator for GroupIter<'s, 'a> {
 
 /// All rules of a section group, by these verdicts on the symbol tables.
 ///
-/// [`Fault::Rule`] is the first that is broken, at its lowest offset: 40, 42, 43, 44, then all rules of the symbol table that the section
-/// links to, then 55 to 58. [`Fault::OutOfMemory`] comes only if an allocation fails; memory is taken only if the members don't
-/// ascend and none but 58 is broken. No other fault comes.
+/// [`BytesFault::Rule`] is the first that is broken, at its lowest offset: 40, 42, 43, 44, then all rules of the symbol table that the
+/// section links to, then 55 to 58. [`BytesFault::OutOfMemory`] comes only if an allocation fails; memory is taken only if the members
+/// don't ascend and none but 58 is broken.
 #[tactic(auto, unfolding(crate::specs::Groups::group_section_rules))]
 pub fn validate_group_section(
     alloc: Global,
     table: TableSection<'_, '_>,
     symbols: SymbolVerdicts<'_>,
-) -> Result<(), Fault>
+) -> Result<(), BytesFault>
     requires { AreKnown (sections_of table.image.now) symbols }
     ensures validated { let f = sections_of table.entry.image.now in
-        IsValidatedBehind (group_section_front f table.entry.index) (group_section_rules f table.entry.index) (λ _. Unit {0}) result }
+        IsTestedBehind (group_section_front f table.entry.index) (group_section_rules f table.entry.index) (λ _. Unit {0}) result }
     ensures memory { let f = sections_of table.entry.image.now in
-        IfErr result (λ fault. fault ≡ OutOfMemory → ¬ MembersAscend (order f) (content f table.entry.index)) }
+        IfErr result (λ fault. fault ≡ NoRoom → ¬ MembersAscend (order f) (content f table.entry.index)) }
 {
     validate_own_rules(table, TableKind::SectionGroup)?;
     let linked = LinkedTable { table };
@@ -189,18 +190,18 @@ pub fn validate_group_section(
 }
 
 /// Rules 55 to 58 of a group whose own rules are kept.
-fn validate_group(alloc: Global, linked: LinkedTable<'_, '_>) -> Result<(), Fault>
+fn validate_group(alloc: Global, linked: LinkedTable<'_, '_>) -> Result<(), BytesFault>
     requires typed { (section (sections_of linked.table.image.now) linked.table.index).sh_type ≡ SHT_GROUP }
     requires sized { (section (sections_of linked.table.image.now) linked.table.index).sh_size % WORD_SIZE ≡ 0 }
     ensures validated { let f = sections_of linked.entry.table.image.now in
-        IsValidatedBehind (group_front_rules f linked.entry.table.index) (group_rules f linked.entry.table.index) (λ _. Unit {0}) result }
+        IsTestedBehind (group_front_rules f linked.entry.table.index) (group_rules f linked.entry.table.index) (λ _. Unit {0}) result }
     ensures memory { let f = sections_of linked.entry.table.image.now in
-        IfErr result (λ fault. fault ≡ OutOfMemory → ¬ MembersAscend (order f) (content f linked.entry.table.index)) }
+        IfErr result (λ fault. fault ≡ NoRoom → ¬ MembersAscend (order f) (content f linked.entry.table.index)) }
 {
     validate_group_front(linked)?;
     let wrong = lowest_wrong_member(alloc, linked.table)?;
     match wrong {
-        Some(j) => Err(Fault::from(Broken::new(WRONG_MEMBER, member_offset(linked.table, j)))),
+        Some(j) => Err(BytesFault::from(Broken::new(WRONG_MEMBER, member_offset(linked.table, j)))),
         None => Ok(()),
     }
 }

@@ -3,6 +3,6 @@
 -- run, and that the lowest number with a property is the offset of the first entry that has it.
 pub use Rattle.elf_table_symbols.proofs.FileSections.{its_file, sections_of_bytes}
 pub use Rattle.elf_table_symbols.proofs.IndexTableLemmas.{index_tables_noted, index_tables_passed, lowest_position}
-pub use Rattle.elf_table_symbols.proofs.ValidatedLemmas.{validated_handed, validated_later, validated_stop}
+pub use Rattle.elf_table_symbols.proofs.ValidatedLemmas.{tested_handed, tested_later, tested_stop, tested_told}
 pub use Rattle.elf_table_symbols.proofs.SymbolLists.{link_there, length_symbols, sound_link, symbol_get, symbols_kind, type_of_group}
 pub use Rattle.elf_table_symbols.proofs.SymbolLists.{type_of_hash}

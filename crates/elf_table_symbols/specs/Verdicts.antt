@@ -6,6 +6,8 @@ use Rattle.std.specs.Ordering.{nat_cmp}
 use Rattle.elf_image_outline.specs.Image.{ImageValue, OfItsBytes}
 use Rattle.elf_image_rules.specs.Rows.{FirstIn, HaveOneFault, Ruled}
 use Rattle.elf_image_rules.specs.Rows.{Broken}
+use Rattle.elf_image_stream.specs.declared.fault.BytesFault.TheVariants.{OutOfMemory as NoRoom, Rule as Breaks}
+use Rattle.elf_image_stream.specs.declared.fault.BytesFault.{BytesFault}
 use Rattle.elf_image_stream.specs.declared.fault.Fault.TheVariants.{OutOfMemory, Io, Rule}
 use Rattle.elf_image_stream.specs.declared.fault.Fault.{Fault}
 use Rattle.elf_table_symbols.specs.Sections.{Sections, sections_in}
@@ -27,6 +29,12 @@ IsValidatedBehind front rules Is (Ok table) = FirstIn rules None × Is table
 IsValidatedBehind front rules Is (Err (Rule rule at)) = FirstIn rules (Some (rule, at))
 IsValidatedBehind front rules Is (Err OutOfMemory) = FirstIn front None
 IsValidatedBehind front rules Is (Err (Io at)) = ⊥
+
+-- the same of a call that only looks at bytes in memory
+abbrev pub IsTestedBehind : {T : Type 0} → List {1} (Ruled ℕ) → List {1} (Ruled ℕ) → (T → Type 0) → Result T BytesFault → Type 0
+IsTestedBehind front rules Is (Ok table) = FirstIn rules None × Is table
+IsTestedBehind front rules Is (Err (Breaks rule at)) = FirstIn rules (Some (rule, at))
+IsTestedBehind front rules Is (Err NoRoom) = FirstIn front None
 
 -- and no other rule and offset is the first that is broken
 abbrev pub IsOnlyValidated : {T : Type 0} → List {1} (Ruled ℕ) → (T → Type 0) → Result T Fault → Type 0

@@ -1,7 +1,7 @@
 use Rattle.std.proofs.Common.{refl, inl}
 use Rattle.elf_image_rules.proofs.Public.{FirstIn-later, FirstIn-sooner}
 use Rattle.elf_table_symbols.specs.Sections.{sections_of}
-use Rattle.elf_table_symbols.proofs.Public.{validated_handed}
+use Rattle.elf_table_symbols.proofs.Public.{tested_handed}
 use Rattle.elf_table_lists.specs.Groups.{group_member_rules, group_rules}
 use Rattle.elf_table_lists.proofs.EntryLists.{no_wrong_member, wrong_member_row}
 use Rattle.elf_table_lists.proofs.group.validate_group.Goals as goal
@@ -9,7 +9,7 @@ use Rattle.elf_table_lists.proofs.group.validate_group.Goals as goal
 pub returns-in_err-validate_group_front-clause-validated : goal.returns-in_err-validate_group_front-clause-validated
 unfolding group_rules
 returns-in_err-validate_group_front-clause-validated c =
-    validated_handed _ _ _ _ _ (FirstIn-sooner _ _ _ c.in_err-validate_group_front.ensures) c.from_residual.ensures.1
+    tested_handed _ _ _ _ _ (FirstIn-sooner _ _ _ c.in_err-validate_group_front.ensures) c.from_residual.ensures.1
 
 pub returns-in-Some-clause-validated : goal.returns-in-Some-clause-validated
 unfolding group_rules group_member_rules
