@@ -10,8 +10,8 @@ use Rattle.elf_extent.specs.Extent.{IsLeast, Never, IsLowest, lower_of}
 use Rattle.elf_field.specs.Abi.{SHT_GROUP}
 use Rattle.elf_image_rules.proofs.Public.{FirstIn-behind, FirstIn-front, FirstIn-later, FirstIn-sooner}
 use Rattle.elf_image_rules.specs.Rows.{FirstIn, Ruled}
-use Rattle.elf_image_stream.specs.declared.fault.Fault.TheVariants.{OutOfMemory, Io, Rule}
-use Rattle.elf_image_stream.specs.declared.fault.Fault.{Fault}
+use Rattle.elf_image_stream.specs.declared.fault.BytesFault.TheVariants.{OutOfMemory, Rule}
+use Rattle.elf_image_stream.specs.declared.fault.BytesFault.{BytesFault}
 use Rattle.elf_object_reader.proofs.Kept.{filter_from_kept, filter_from_other}
 use Rattle.elf_object_layout.specs.SectionsLeftOut.{left_out, symbol_table, is_kept}
 use Rattle.elf_object_reader.specs.Denotes.{kept, body_kind}
@@ -21,7 +21,7 @@ use Rattle.elf_object_reader.specs.FileRules.{wrong_group_member_before, wrong_g
 use Rattle.elf_object_layout.specs.declared.left_out.LeftOut.{LeftOut}
 use Rattle.elf_table_symbols.specs.Sections.{Sections, count, section}
 use Rattle.elf_table_symbols.specs.Symbols.{symbol_table_rules}
-use Rattle.elf_table_symbols.specs.Verdicts.{IsValidatedBehind}
+use Rattle.elf_table_symbols.specs.Verdicts.{IsTestedBehind}
 
 -- The runs of rules of a file that breaks none: a list without a fault has none in its first run, and none in the rest, so each run has
 -- none.
@@ -63,33 +63,33 @@ references_sound f clean =
 -- first run has no fault.
 
 -- what a call answers that tests these rules and makes nothing
-abbrev pub IsVerdict : List {1} (Ruled ℕ) → Result (Unit {0}) Fault → Type 0
-IsVerdict rules result = IsValidatedBehind [] rules (λ _. Unit {0}) result
+abbrev pub IsVerdict : List {1} (Ruled ℕ) → Result (Unit {0}) BytesFault → Type 0
+IsVerdict rules result = IsTestedBehind [] rules (λ _. Unit {0}) result
 
 -- the first rule that is broken, as a verdict
-pub verdict_told : (rules : List {1} (Ruled ℕ)) (number at : ℕ) (result : Result (Unit {0}) Fault) → FirstIn rules (Some (number, at)) →
+pub verdict_told : (rules : List {1} (Ruled ℕ)) (number at : ℕ) (result : Result (Unit {0}) BytesFault) →
+    FirstIn rules (Some (number, at)) →
     IsErrAnd result (λ error. error ≡ Rule number at) → IsVerdict rules result
 verdict_told rules number at (Ok value) found same = absurd same
-verdict_told rules number at (Err error) found same = subst (λ (e : Fault). IsVerdict rules (Err e)) (sym same) found
+verdict_told rules number at (Err error) found same = subst (λ (e : BytesFault). IsVerdict rules (Err e)) (sym same) found
 
 -- after a run without a fault is the verdict of the rules after it
-pub verdict_later : (xs ys : List {1} (Ruled ℕ)) (result : Result (Unit {0}) Fault) → FirstIn xs None → IsVerdict ys result →
+pub verdict_later : (xs ys : List {1} (Ruled ℕ)) (result : Result (Unit {0}) BytesFault) → FirstIn xs None → IsVerdict ys result →
     IsVerdict (xs ++ ys) result
 verdict_later xs ys (Ok value) clean (found, unit) = (FirstIn-later xs ys None clean found, tt)
 verdict_later xs ys (Err (Rule number at)) clean found = FirstIn-later xs ys (Some (number, at)) clean found
 verdict_later xs ys (Err OutOfMemory) clean told = tt
-verdict_later xs ys (Err (Io at)) clean told = absurd told
 
 -- ---- of a file, of which memory is taken only after the first run
 
 -- the first run's own fault
-pub front_fault : {T : Type 0} (f : Sections) (Is : T → Type 0) (number at : ℕ) (result : Result T Fault) →
+pub front_fault : {T : Type 0} (f : Sections) (Is : T → Type 0) (number at : ℕ) (result : Result T BytesFault) →
     FirstIn (front_rules f) (Some (number, at)) →
-    IsErrAnd result (λ error. error ≡ Rule number at) → IsValidatedBehind (front_rules f) (file_rules f) Is result
+    IsErrAnd result (λ error. error ≡ Rule number at) → IsTestedBehind (front_rules f) (file_rules f) Is result
 unfolding file_rules
 front_fault f Is number at (Ok value) found same = absurd same
 front_fault {T} f Is number at (Err error) found same =
-    subst (λ (e : Fault). IsValidatedBehind {T = T} (front_rules f) (file_rules f) Is (Err e)) (sym same)
+    subst (λ (e : BytesFault). IsTestedBehind {T = T} (front_rules f) (file_rules f) Is (Err e)) (sym same)
     (FirstIn-sooner (front_rules f) _ (number, at) found)
 
 -- what the rules after it find is what all find
@@ -100,34 +100,33 @@ found_behind f left found same clean behind =
     FirstIn-later (front_rules f) _ found clean (subst (λ (l : LeftOut). FirstIn (rules_behind l f l.symbol_table) found) same behind)
 
 -- their fault
-pub fault_behind : {T : Type 0} (f : Sections) (left : LeftOut) (Is : T → Type 0) (fault : Fault) (result : Result T Fault) →
+pub fault_behind : {T : Type 0} (f : Sections) (left : LeftOut) (Is : T → Type 0) (fault : BytesFault) (result : Result T BytesFault) →
     left ≡ left_out f →
     FirstIn (front_rules f) None → IsVerdict (rules_behind left f left.symbol_table) (Err fault) →
     IsErrAnd result (λ error. error ≡ fault) →
-    IsValidatedBehind (front_rules f) (file_rules f) Is result
+    IsTestedBehind (front_rules f) (file_rules f) Is result
 fault_behind f left Is fault (Ok value) same clean told handed = absurd handed
 fault_behind {T} f left Is fault (Err error) same clean told handed =
-    subst (λ (e : Fault). IsValidatedBehind {T = T} (front_rules f) (file_rules f) Is (Err e)) (sym handed) (known fault told)
+    subst (λ (e : BytesFault). IsTestedBehind {T = T} (front_rules f) (file_rules f) Is (Err e)) (sym handed) (known fault told)
   where
-    known : (fault : Fault) → IsVerdict (rules_behind left f left.symbol_table) (Err fault) →
-        IsValidatedBehind {T = T} (front_rules f) (file_rules f) Is (Err fault)
+    known : (fault : BytesFault) → IsVerdict (rules_behind left f left.symbol_table) (Err fault) →
+        IsTestedBehind {T = T} (front_rules f) (file_rules f) Is (Err fault)
     known (Rule number at) found = found_behind f left (Some (number, at)) same clean found
     known OutOfMemory found = clean
-    known (Io at) found = absurd found
 
 -- where no rule is broken, only memory can be wanted
-pub read_validated : {T : Type 0} (f : Sections) (Is : T → Type 0) (result : Result T Fault) → FirstIn (file_rules f) None →
+pub read_validated : {T : Type 0} (f : Sections) (Is : T → Type 0) (result : Result T BytesFault) → FirstIn (file_rules f) None →
     IfOk result Is →
-    IfErr result (λ error. error ≡ OutOfMemory) → IsValidatedBehind (front_rules f) (file_rules f) Is result
+    IfErr result (λ error. error ≡ OutOfMemory) → IsTestedBehind (front_rules f) (file_rules f) Is result
 read_validated f Is (Ok value) clean is memory = (clean, is)
 read_validated {T} f Is (Err error) clean is memory =
-    subst (λ (e : Fault). IsValidatedBehind {T = T} (front_rules f) (file_rules f) Is (Err e)) (sym memory) (front_sound f clean)
+    subst (λ (e : BytesFault). IsTestedBehind {T = T} (front_rules f) (file_rules f) Is (Err e)) (sym memory) (front_sound f clean)
 
-pub memory_wanted : {T : Type 0} (f : Sections) (Is : T → Type 0) (result : Result T Fault) → FirstIn (file_rules f) None →
-    IsErrAnd result (λ error. error ≡ OutOfMemory) → IsValidatedBehind (front_rules f) (file_rules f) Is result
+pub memory_wanted : {T : Type 0} (f : Sections) (Is : T → Type 0) (result : Result T BytesFault) → FirstIn (file_rules f) None →
+    IsErrAnd result (λ error. error ≡ OutOfMemory) → IsTestedBehind (front_rules f) (file_rules f) Is result
 memory_wanted f Is (Ok value) clean told = absurd told
 memory_wanted {T} f Is (Err error) clean told =
-    subst (λ (e : Fault). IsValidatedBehind {T = T} (front_rules f) (file_rules f) Is (Err e)) (sym told) (front_sound f clean)
+    subst (λ (e : BytesFault). IsTestedBehind {T = T} (front_rules f) (file_rules f) Is (Err e)) (sym told) (front_sound f clean)
 
 -- Steps of a loop over the sections. Invariant (`IsFoundByAll`): the first fault in the tables of the kept sections from i on is the first
 -- of all. A section that is left out, or kept without a fault, keeps it for i + 1. If the kept section i has a fault, that is the first one

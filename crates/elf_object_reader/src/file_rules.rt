@@ -12,13 +12,13 @@ ghost use Rattle.elf_object_layout.specs.SectionsLeftOut.{symbol_table as symbol
 ghost use Rattle.elf_object_reader.specs.Denotes.{body_kind, kept};
 ghost use Rattle.elf_image_rules.specs.Rows.{fault_of, FirstIn};
 ghost use Rattle.elf_table_symbols.specs.Sections.{sections_of, count, content, section};
-ghost use Rattle.elf_table_symbols.specs.Verdicts.{IsValidatedBehind};
+ghost use Rattle.elf_table_symbols.specs.Verdicts.{IsTestedBehind};
 
 use crate::object_file::{BodyKind, FileSection, FileSymbols, ObjectFile};
 use crate::rules::*;
 use elf_field::abi::*;
 use elf_image_rules::Broken;
-use elf_image_stream::Fault;
+use elf_image_stream::BytesFault;
 use elf_image_type::Image;
 use elf_table_all::{Place, member, member_count};
 use std::alloc::{AllocError, Global};
@@ -282,9 +282,9 @@ fn lower(a: Option<u64>, b: Option<u64>) -> Option<u64>
 
 impl<'i, 'a> ObjectFile<'i, 'a> {
     /// All rules of the image as an object but 70 to 74, by the verdicts on its tables.
-    pub(crate) fn validate(&self, alloc: Global) -> Result<(), Fault>
+    pub(crate) fn validate(&self, alloc: Global) -> Result<(), BytesFault>
         ensures { let left = self.now.left in
-            IsValidatedBehind [] (rules_behind left (sections_of_file self.now) left.symbol_table) (λ _. Unit {0}) result }
+            IsTestedBehind [] (rules_behind left (sections_of_file self.now) left.symbol_table) (λ _. Unit {0}) result }
     {
         self.validate_symbols()?;
         self.validate_bodies()?;
@@ -336,20 +336,20 @@ impl<'i, 'a> ObjectFile<'i, 'a> {
 
     /// Rules 76 to 79.
     #[tactic(auto, unfolding(crate::specs::FileRules::reference_rules))]
-    fn validate_references(&self, alloc: Global) -> Result<(), Fault>
-        ensures { IsValidatedBehind [] (reference_rules self.now.left (sections_of_file self.now)) (λ _. Unit {0}) result }
+    fn validate_references(&self, alloc: Global) -> Result<(), BytesFault>
+        ensures { IsTestedBehind [] (reference_rules self.now.left (sections_of_file self.now)) (λ _. Unit {0}) result }
     {
         if let Some(at) = self.lowest_reference(ReferenceRule::WrongRelocationTarget) {
-            return Err(Fault::from(Broken::new(WRONG_RELOCATION_TARGET, at)));
+            return Err(BytesFault::from(Broken::new(WRONG_RELOCATION_TARGET, at)));
         }
         if let Some(at) = self.lowest_wrong_group_member(alloc)? {
-            return Err(Fault::from(Broken::new(WRONG_GROUP_MEMBER, at)));
+            return Err(BytesFault::from(Broken::new(WRONG_GROUP_MEMBER, at)));
         }
         if let Some(at) = self.lowest_reference(ReferenceRule::WrongKeptLink) {
-            return Err(Fault::from(Broken::new(WRONG_KEPT_LINK, at)));
+            return Err(BytesFault::from(Broken::new(WRONG_KEPT_LINK, at)));
         }
         if let Some(at) = self.lowest_reference(ReferenceRule::WrongKeptInfo) {
-            return Err(Fault::from(Broken::new(WRONG_KEPT_INFO, at)));
+            return Err(BytesFault::from(Broken::new(WRONG_KEPT_INFO, at)));
         }
         Ok(())
     }

@@ -19,4 +19,4 @@ mod string_blocks;
 
 pub use laws::{one_file_fault, one_object};
 pub use object_file::BodyKind;
-pub use reading::object_of;
+pub use reading::{object_of, read_object};

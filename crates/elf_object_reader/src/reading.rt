@@ -9,9 +9,9 @@ ghost use Rattle.elf_object_layout.specs.SectionsLeftOut.{is_kept};
 ghost use Rattle.elf_object_reader.specs.Denotes.{section_name_table, section_reference, position_of, Denotes, DenotesOnly};
 ghost use Rattle.elf_object_reader.specs.FileRules.{file_rules, AreSectionPositions, sections_of_file, front_rules};
 ghost use Rattle.elf_table_symbols.specs.Sections.{sections_of, section};
-ghost use Rattle.elf_image_stream.specs.declared.fault.Fault.TheVariants.{OutOfMemory};
+ghost use Rattle.elf_image_stream.specs.declared.fault.BytesFault.TheVariants.{OutOfMemory};
 ghost use Rattle.elf_object_type.specs.ObjectView.{HasNameEnds, value_of};
-ghost use Rattle.elf_table_symbols.specs.Verdicts.{IsOnlyValidatedBehind, IsValidatedBehind, OfItsFile};
+ghost use Rattle.elf_table_symbols.specs.Verdicts.{IsOnlyValidatedBehind, IsTestedBehind, IsValidatedBehind, OfItsFile};
 
 use crate::file_rules::validate_front;
 use crate::name_ends::{useful_section_ends, useful_symbol_ends};
@@ -19,7 +19,7 @@ use crate::object_file::ObjectFile;
 use crate::string_blocks::StringBlocks;
 use elf_field::Shdr;
 use elf_field::abi::*;
-use elf_image_stream::Fault;
+use elf_image_stream::{BytesFault, Fault};
 use elf_image_type::Image;
 use elf_object_layout::LeftOut;
 use elf_object_type::{NameEnds, Object, ObjectParts, kept_object};
@@ -115,14 +115,23 @@ pub fn object_of<'a>(alloc: Global, image: &Image<'a>) -> Result<Object<'a>, Fau
     ensures file { OfItsFile image.now (λ f. IsOnlyValidatedBehind (front_rules f) (file_rules f) (DenotesOnly f) result) }
 {
     image.prove_stands();
+    Ok(read_object(alloc, image)?)
+}
+
+/// The object that the image denotes, as [`object_of`] makes it, whose fault is the public form of this one.
+pub fn read_object<'a>(alloc: Global, image: &Image<'a>) -> Result<Object<'a>, BytesFault>
+    ensures { let f = sections_of image.now in
+        IsTestedBehind (front_rules f) (file_rules f) (λ o. Denotes f o) result }
+{
+    image.prove_stands();
     let (parts, ends) = parts_of(alloc, image)?;
     Ok(kept_object(parts, ends))
 }
 
 /// The parts of the object that the image denotes, and where their names end.
-fn parts_of<'a>(alloc: Global, image: &Image<'a>) -> Result<(ObjectParts<'a>, NameEnds), Fault>
+fn parts_of<'a>(alloc: Global, image: &Image<'a>) -> Result<(ObjectParts<'a>, NameEnds), BytesFault>
     ensures { let f = sections_of image.now in
-        IsValidatedBehind (front_rules f) (file_rules f)
+        IsTestedBehind (front_rules f) (file_rules f)
         (λ (parts, ends). Denotes f (value_of parts) × HasNameEnds (value_of parts) ends) result }
 {
     let left = LeftOut::of(image);
@@ -137,11 +146,12 @@ fn parts_of<'a>(alloc: Global, image: &Image<'a>) -> Result<(ObjectParts<'a>, Na
     read_parts(alloc, file)
 }
 
-/// The parts of the object that a file denotes which breaks no rule, and where their names end. [`Fault::OutOfMemory`] is the only error.
+/// The parts of the object that a file denotes which breaks no rule, and where their names end. [`BytesFault::OutOfMemory`] is the only
+/// error.
 fn read_parts<'a>(
     alloc: Global,
     file: ObjectFile<'_, 'a>,
-) -> Result<(ObjectParts<'a>, NameEnds), Fault>
+) -> Result<(ObjectParts<'a>, NameEnds), BytesFault>
     requires { FirstIn (file_rules (sections_of_file file)) None }
     ensures ok { IfOk result (λ (parts, ends). Denotes (sections_of_file file.entry) (value_of parts) × HasNameEnds (value_of parts) ends) }
     ensures err { IfErr result (λ fault. fault ≡ OutOfMemory) }

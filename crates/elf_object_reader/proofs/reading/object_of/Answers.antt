@@ -1,25 +1,17 @@
--- A file that breaks no rule denotes an object that breaks none (`object_kept`), and no other one (`one_object`). The sections of the image
--- are those of its bytes (`its_file`), so all of this holds of the one list of bytes that represents the image.
-use Rattle.std.proofs.Common.{Err, Ok, Result, rules}
+-- A file that breaks no rule denotes no other object (`one_object`). The sections of the image are those of its bytes (`its_file`), so all
+-- of this holds of the one list of bytes that represents the image.
+use Rattle.std.proofs.Common.{Err, Ok, Result}
 use Rattle.elf_image_stream.specs.declared.fault.Fault.{Fault}
 use Rattle.elf_image_stream.specs.declared.fault.Fault.TheVariants.{Io, OutOfMemory, Rule}
-use Rattle.elf_image_type.proofs.Public.{image_is_sound}
 use Rattle.elf_object_reader.specs.Denotes.{Denotes, DenotesOnly}
 use Rattle.elf_object_reader.specs.FileRules.{file_rules, front_rules}
 use Rattle.elf_object_type.specs.Object.{ObjectValue}
 use Rattle.elf_image_rules.proofs.Public.{one_fault}
-use Rattle.elf_table_symbols.proofs.Public.{its_file}
+use Rattle.elf_table_symbols.proofs.Public.{its_file, tested_told}
 use Rattle.elf_table_symbols.specs.Sections.{Sections, sections_of}
 use Rattle.elf_table_symbols.specs.Verdicts.{IsValidatedBehind}
-use Rattle.elf_object_type.specs.ObjectView.{value_of}
-use Rattle.elf_object_reader.proofs.ObjectKept.{object_kept, one_object}
+use Rattle.elf_object_reader.proofs.ObjectKept.{one_object}
 use Rattle.elf_object_reader.proofs.reading.object_of.Goals as goal
-
-pub kept_object-requires-clause-rules : goal.kept_object-requires-clause-rules
-kept_object-requires-clause-rules c =
-    let v = c.args.image.now in
-    let sound = image_is_sound v c.prove_stands.ensures.0 c.prove_stands.ensures.1 in
-    object_kept v (value_of c.in_ok-parts.parts) sound c.in_ok-parts.ensures.0 c.in_ok-parts.ensures.1.0
 
 denoted_only : (f : Sections) (result : Result ObjectValue Fault) → IsValidatedBehind (front_rules f) (file_rules f) (Denotes f) result →
     IsValidatedBehind (front_rules f) (file_rules f) (DenotesOnly f) result
@@ -28,27 +20,25 @@ denoted_only f (Err (Rule number at)) validated = validated
 denoted_only f (Err OutOfMemory) validated = validated
 denoted_only f (Err (Io at)) validated = validated
 
-pub returns-in_err-parts-clause-validated : goal.returns-in_err-parts-clause-validated
-returns-in_err-parts-clause-validated c = search rules
+pub returns-in_err-read_object-clause-validated : goal.returns-in_err-read_object-clause-validated
+returns-in_err-read_object-clause-validated c =
+    tested_told {S = ObjectValue} _ _ (Denotes (sections_of c.args.image.now)) _ _ _ c.in_err-read_object.ensures c.from_residual.ensures.1
 
-pub returns-in_err-parts-clause-file : goal.returns-in_err-parts-clause-file
-returns-in_err-parts-clause-file c =
+pub returns-in_err-read_object-clause-file : goal.returns-in_err-read_object-clause-file
+returns-in_err-read_object-clause-file c =
     let f = sections_of c.args.image.now in (
       f,
       its_file c.args.image.now c.prove_stands.ensures,
       (
         one_fault (file_rules f),
-        denoted_only f c.from_residual.result (returns-in_err-parts-clause-validated c),
+        denoted_only f c.from_residual.result (returns-in_err-read_object-clause-validated c),
       ),
     )
-
-pub returns-clause-validated : goal.returns-clause-validated
-returns-clause-validated c = search rules
 
 pub returns-clause-file : goal.returns-clause-file
 returns-clause-file c =
     let f = sections_of c.args.image.now in
-    let (kept, denotes) = returns-clause-validated c in (
+    let (kept, denotes) = c.in_ok-read_object.ensures in (
       f,
       its_file c.args.image.now c.prove_stands.ensures,
       (
