@@ -7,8 +7,8 @@ use Rattle.elf_c_engines.specs.declared.tables.TableFault.{TableFault}
 use Rattle.elf_image_outline.specs.Image.{ImageValue, IsImage}
 use Rattle.elf_image_rules.specs.Rows.{FirstIn}
 use Rattle.elf_image_rules.specs.Rules.{IsFault}
-use Rattle.elf_image_stream.specs.declared.fault.Fault.TheVariants as fault
-use Rattle.elf_image_stream.specs.declared.fault.Fault.{Fault}
+use Rattle.elf_image_stream.specs.declared.fault.BytesFault.TheVariants as fault
+use Rattle.elf_image_stream.specs.declared.fault.BytesFault.{BytesFault}
 use Rattle.elf_table_all.specs.Tables.{table_rules}
 use Rattle.elf_table_symbols.specs.Sections.{Sections, count, sections_of}
 use Rattle.elf_tool_check.specs.declared.calls.Refusal.TheVariants.{File}
@@ -36,9 +36,8 @@ pub record ArePut (f : Sections) (first : ℕ) (old new : List TableFault) (fill
   pub others : (k : ℕ) → filled ≤ k → slot_at new k ≡ slot_at old k
 
 -- why nothing is put into it
-abbrev pub IsTablesFault : List ℕ → Fault → Type 0
+abbrev pub IsTablesFault : List ℕ → BytesFault → Type 0
 IsTablesFault b (fault.Rule rule at) = IsFault b (Some (rule, at))
-IsTablesFault b (fault.Io at) = ⊥
 IsTablesFault b fault.OutOfMemory = Unit {0}
 
 -- the call: the file is an image, and `length` says how many slots were filled; or the rule of images that it breaks; or out of memory

@@ -7,8 +7,8 @@ ghost use Rattle.elf_table_symbols.specs.Sections.{sections_of};
 
 use crate::calls::{CallFault, Outcome, give_up, verdict_alone};
 use elf_image_rules::Broken;
-use elf_image_stream::Fault;
-use elf_image_type::parse;
+use elf_image_stream::BytesFault;
+use elf_image_type::parse_bytes;
 use elf_table_all::Tables;
 use elf_tool_check::{Refusal, Verdict};
 use std::alloc::Global;
@@ -36,11 +36,11 @@ pub extern "C" fn elfmap_table_verdicts(
 {
     match put_verdicts(alloc, bytes, first as usize, faults) {
         Ok(filled) => verdict_alone(Verdict::Done, filled as u64, outcome),
-        Err(Fault::Rule { rule, at }) => {
+        Err(BytesFault::Rule { rule, at }) => {
             let refused = Verdict::Refused(Refusal::File { file: 0, rule, at });
             verdict_alone(refused, 0, outcome)
         }
-        Err(_) => give_up(CallFault::OutOfMemory, outcome),
+        Err(BytesFault::OutOfMemory) => give_up(CallFault::OutOfMemory, outcome),
     }
 }
 
@@ -50,12 +50,12 @@ fn put_verdicts(
     bytes: &[u8],
     first: usize,
     faults: &mut [TableFault],
-) -> Result<usize, Fault>
+) -> Result<usize, BytesFault>
     ensures { MatchResult result
         (λ filled. (v : ImageValue) × IsImage v bytes.now × ArePut (sections_of v) first faults.old faults.new filled)
         (λ fault. IsTablesFault bytes.now fault × (faults.new ≡ faults.old)) }
 {
-    let image = parse(alloc, bytes)?;
+    let image = parse_bytes(alloc, bytes)?;
     let tables = Tables::new(alloc, &image)?;
     Ok(put_faults(&tables, first, faults))
 }

@@ -3,7 +3,7 @@ use Rattle.std.specs.Prelude.{ℕ, zero, suc, ◌⊎◌, List, [], ◌∷◌, No
 use Rattle.elf_image_outline.specs.Image.{ImageValue, IsImage}
 use Rattle.elf_image_rules.specs.Rows.{FirstIn}
 use Rattle.elf_image_rules.specs.Rules.{IsFault}
-use Rattle.elf_image_stream.specs.declared.fault.Fault.{Fault}
+use Rattle.elf_image_stream.specs.declared.fault.BytesFault.{BytesFault}
 use Rattle.elf_link_files.specs.declared.fault.LinkFault.TheVariants.{Rule}
 use Rattle.elf_link_files.specs.declared.fault.LinkFault.{LinkFault}
 use Rattle.elf_link_files.specs.declared.fault.Options.{Options}
@@ -18,7 +18,7 @@ use Rattle.elf_tool_link.specs.declared.mapped.FileFault.{FileFault}
 use Rattle.elf_tool_link.specs.declared.mapped.Unlinked.TheVariants.{Refused as UnlinkedRefused, OutOfMemory as UnlinkedOutOfMemory}
 use Rattle.elf_tool_link.specs.declared.mapped.Unlinked.{Unlinked}
 use Rattle.elf_tool_check.specs.declared.calls.Refusal.TheVariants.{File, Link, TooLong}
-use Rattle.elf_image_stream.specs.declared.fault.Fault.TheVariants as fault
+use Rattle.elf_image_stream.specs.declared.fault.BytesFault.TheVariants as fault
 use Rattle.elf_link_files.specs.declared.fault.LinkFault.TheVariants as link
 use Rattle.elf_tool_link.specs.declared.mapped.FileFault.TheVariants as file
 
@@ -32,9 +32,8 @@ IsRefusedFile b rule at =
     IsFault b (Some (rule, at)) ⊎ ((v : ImageValue) × IsImage v b × FirstIn (file_rules (sections_of v)) (Some (rule, at)))
 
 -- a file gives no object: it is refused, or memory was
-abbrev pub IsObjectFileFault : List ℕ → Fault → Type 0
+abbrev pub IsObjectFileFault : List ℕ → BytesFault → Type 0
 IsObjectFileFault b (fault.Rule rule at) = IsRefusedFile b rule at
-IsObjectFileFault b (fault.Io at) = ⊥
 IsObjectFileFault b fault.OutOfMemory = Unit {0}
 
 -- each file is its object

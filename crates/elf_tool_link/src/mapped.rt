@@ -2,11 +2,11 @@
 ghost use Rattle.std.specs.Prelude.{◌≡◌, IfOk, MatchResult, map};
 ghost use Rattle.elf_tool_link.specs.ObjectFiles.{AreObjectFiles, IsFileFault, IsObjectFile, IsObjectFileFault, IsMapOfFiles, IsUnlinked};
 
-use elf_image_stream::Fault;
-use elf_image_type::parse;
+use elf_image_stream::BytesFault;
+use elf_image_type::parse_bytes;
 use elf_link_map::{LinkFault, Options};
 use elf_link_relocate::Mapped;
-use elf_object_reader::object_of;
+use elf_object_reader::read_object;
 use elf_object_type::Object;
 use elf_tool_check::Refusal;
 use std::alloc::{AllocError, Global};
@@ -46,10 +46,10 @@ pub fn objects_of<'a>(alloc: Global, files: &[&'a [u8]]) -> Result<Vec<Object<'a
     for file in 0..files.len() {
         let object = match object_in(alloc, files[file]) {
             Ok(object) => object,
-            Err(Fault::Rule { rule, at }) => return Err(FileFault::Refused { file, rule, at }),
-            Err(Fault::OutOfMemory) => return Err(FileFault::OutOfMemory),
-            // Nothing is read.
-            Err(Fault::Io { .. }) => unreachable!(),
+            Err(BytesFault::Rule { rule, at }) => {
+                return Err(FileFault::Refused { file, rule, at });
+            }
+            Err(BytesFault::OutOfMemory) => return Err(FileFault::OutOfMemory),
         };
         let Ok(()) = objects.push(object) else {
             return Err(FileFault::OutOfMemory);
@@ -59,11 +59,11 @@ pub fn objects_of<'a>(alloc: Global, files: &[&'a [u8]]) -> Result<Vec<Object<'a
 }
 
 // The object of one file.
-fn object_in<'a>(alloc: Global, bytes: &'a [u8]) -> Result<Object<'a>, Fault>
+fn object_in<'a>(alloc: Global, bytes: &'a [u8]) -> Result<Object<'a>, BytesFault>
     ensures { MatchResult result (IsObjectFile bytes.entry.now) (IsObjectFileFault bytes.entry.now) }
 {
-    let image = parse(alloc, bytes)?;
-    object_of(alloc, &image)
+    let image = parse_bytes(alloc, bytes)?;
+    read_object(alloc, &image)
 }
 
 /// Why files are not linked.

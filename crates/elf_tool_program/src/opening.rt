@@ -3,7 +3,7 @@ ghost use Rattle.std.specs.Prelude.{IfErr, IfOk, map, ◌≡◌};
 ghost use Rattle.elf_tool_program.specs.Program.{AreOpened, IsUnopened, GivesNoRules, GivesRules, ReadsNoRules, ReadsRules};
 
 use elf_image_rules::MAX_LEN;
-use elf_image_stream::{Fault, read_to_end};
+use elf_image_stream::{InputFault, read_all};
 use elf_link_field::RelocRule;
 use elf_tool_check::{OpenFault, Opener};
 use elf_tool_rule_file::{RulesFault, read_rules};
@@ -83,7 +83,7 @@ fn rules_from<R: Read>(alloc: Global, input: &mut R) -> Result<Vec<RelocRule>, N
     ensures err { IfErr result (ReadsNoRules (R.remaining input.old) (R.remaining input.new)) }
 {
     let mut file = Vec::new(alloc);
-    match read_to_end(input, &mut file) {
+    match read_all(input, &mut file) {
         Ok(()) => match read_rules(alloc, &file) {
             Ok(rules) if file.len() as u64 > MAX_LEN => Err(NoRules::BadLine {
                 line: rules.len() + 1,
@@ -92,9 +92,7 @@ fn rules_from<R: Read>(alloc: Global, input: &mut R) -> Result<Vec<RelocRule>, N
             Err(RulesFault::BadLine { line }) => Err(NoRules::BadLine { line }),
             Err(RulesFault::OutOfMemory) => Err(NoRules::OutOfMemory),
         },
-        Err(Fault::Io { at }) => Err(NoRules::Unread { at }),
-        Err(Fault::OutOfMemory) => Err(NoRules::OutOfMemory),
-        // No rule of files is tested while a file is read.
-        Err(Fault::Rule { .. }) => unreachable!(),
+        Err(InputFault::Io { at }) => Err(NoRules::Unread { at }),
+        Err(InputFault::OutOfMemory) => Err(NoRules::OutOfMemory),
     }
 }

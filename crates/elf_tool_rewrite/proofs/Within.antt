@@ -3,8 +3,8 @@
 use Rattle.std.proofs.Common.{◌≡◌, ◌∙◌, ◌≤◌, ℕ, List, [], Option, Result, Ok, Err, ap, arith, inl, length, refl, subst, sym}
 use Rattle.std.specs.Io.KnownBytes.{Keeps}
 use Rattle.std.proofs.KnownBytes.{Appends-nil, Keeps-refl}
-use Rattle.elf_image_stream.specs.declared.fault.Fault.TheVariants as fault
-use Rattle.elf_image_stream.specs.declared.fault.Fault.{Fault}
+use Rattle.elf_image_stream.specs.declared.fault.BytesFault.TheVariants as fault
+use Rattle.elf_image_stream.specs.declared.fault.BytesFault.{BytesFault}
 use Rattle.elf_object_file.specs.ObjectFile.{IsWrittenFile}
 use Rattle.elf_object_type.specs.Object.{ObjectValue}
 use Rattle.elf_tool_check.specs.Engine.{Prints}
@@ -22,24 +22,21 @@ denoted_says b o (v, image, (clean, denotes)) verdict text says = inl (v, image,
 
 -- ---- no object
 
-pub none_printed : (b : List ℕ) (old : Option (List ℕ)) (fault : Fault) → DenotesNone b fault →
+pub none_printed : (b : List ℕ) (old : Option (List ℕ)) (fault : BytesFault) → DenotesNone b fault →
     Prints (RewriteSays b) old old (unread_answer fault)
 none_printed b old (fault.Rule rule at) says = ([], says, Appends-nil old)
-none_printed b old (fault.Io at) never = absurd never
 none_printed b old fault.OutOfMemory done = Keeps-refl old
 
-pub none_within : (b : List ℕ) (most : ℕ) (old : Option (List ℕ)) (fault : Fault) (verdict : Verdict) → DenotesNone b fault →
+pub none_within : (b : List ℕ) (most : ℕ) (old : Option (List ℕ)) (fault : BytesFault) (verdict : Verdict) → DenotesNone b fault →
     unread_answer fault ≡ Ok verdict → PrintsWithin (RewriteSays b) most old old (Ok (verdict, 0))
 none_within b most old (fault.Rule rule at) verdict says is =
     let same : Refused (File 0 rule at) ≡ verdict = cc in
     ([], subst (λ (v : Verdict). RewriteSays b v []) same says, refl, (λ fits. Appends-nil old), (λ long. Keeps-refl old))
-none_within b most old (fault.Io at) verdict never is = absurd never
 none_within b most old fault.OutOfMemory verdict done is = absurd cc
 
-pub none_fails : (b : List ℕ) (most : ℕ) (old : Option (List ℕ)) (fault : Fault) (failed : ToolFault) → DenotesNone b fault →
+pub none_fails : (b : List ℕ) (most : ℕ) (old : Option (List ℕ)) (fault : BytesFault) (failed : ToolFault) → DenotesNone b fault →
     unread_answer fault ≡ Err failed → PrintsWithin (RewriteSays b) most old old (Err failed)
 none_fails b most old (fault.Rule rule at) failed says is = absurd cc
-none_fails b most old (fault.Io at) failed never is = absurd never
 none_fails b most old fault.OutOfMemory (Read at) done is = absurd cc
 none_fails b most old fault.OutOfMemory (Write written) done is = absurd cc
 none_fails b most old fault.OutOfMemory OutOfMemory done is = Keeps-refl old

@@ -2,8 +2,8 @@
 use Rattle.std.specs.Prelude.{◌≡◌, ◌⊎◌, ◌<◌, ◌≤◌, ℕ, List, [], length, None, Option, Some, Result, Ok, Err}
 use Rattle.std.specs.Io.KnownBytes.{Appends, Keeps}
 use Rattle.elf_image_outline.specs.Image.{ImageValue, IsImage}
-use Rattle.elf_image_stream.specs.declared.fault.Fault.TheVariants as fault
-use Rattle.elf_image_stream.specs.declared.fault.Fault.{Fault}
+use Rattle.elf_image_stream.specs.declared.fault.BytesFault.TheVariants as fault
+use Rattle.elf_image_stream.specs.declared.fault.BytesFault.{BytesFault}
 use Rattle.elf_object_reader.specs.Denotes.{Denotes}
 use Rattle.elf_object_reader.specs.FileRules.{file_rules}
 use Rattle.elf_object_file.specs.ObjectFile.{IsWrittenFile}
@@ -57,14 +57,12 @@ abbrev pub DenotesObject : List ℕ → ObjectValue → Type 0
 DenotesObject b o = (v : ImageValue) × IsImage v b × (FirstIn (file_rules (sections_of v)) None × Denotes (sections_of v) o)
 
 -- it denotes none: a rule is broken first, of which `rewrite` says so; or out of memory
-abbrev pub DenotesNone : List ℕ → Fault → Type 0
+abbrev pub DenotesNone : List ℕ → BytesFault → Type 0
 DenotesNone b (fault.Rule rule at) = RewriteSays b (Refused (File 0 rule at)) []
-DenotesNone b (fault.Io at) = ⊥
 DenotesNone b fault.OutOfMemory = Unit {0}
 
-abbrev pub unread_answer : Fault → Result Verdict ToolFault
+abbrev pub unread_answer : BytesFault → Result Verdict ToolFault
 unread_answer (fault.Rule rule at) = Ok (Refused (File 0 rule at))
-unread_answer (fault.Io at) = Err (tool.Read at)
 unread_answer fault.OutOfMemory = Err tool.OutOfMemory
 
 -- A call of `rewrite` that writes only what has room.

@@ -5,11 +5,11 @@ ghost use Rattle.elf_tool_rewrite.specs.Rewrite.{DenotesNone, DenotesObject, Has
 ghost use Rattle.elf_tool_rewrite.specs.Rewrite.{unread_answer};
 ghost use Rattle.elf_tool_check.specs.declared.calls.Verdict.TheVariants.{Done};
 
-use elf_image_stream::Fault;
-use elf_image_type::parse;
+use elf_image_stream::BytesFault;
+use elf_image_type::parse_bytes;
 use elf_object_file::write_object;
 use elf_object_layout::{LayoutFault, lay_out};
-use elf_object_reader::object_of;
+use elf_object_reader::read_object;
 use elf_object_type::Object;
 use elf_object_writer::ObjectWriteFault;
 use elf_tool_check::{Refusal, ToolFault, Verdict, read_input};
@@ -76,22 +76,20 @@ pub fn rewrite_within<W: Write>(
 }
 
 /// The object that a file of these bytes denotes.
-fn object_in<'a>(alloc: Global, bytes: &'a [u8]) -> Result<Object<'a>, Fault>
+fn object_in<'a>(alloc: Global, bytes: &'a [u8]) -> Result<Object<'a>, BytesFault>
     ensures { MatchResult result (λ object. DenotesObject bytes.entry.now object) (DenotesNone bytes.entry.now) }
 {
-    let image = parse(alloc, bytes)?;
-    object_of(alloc, &image)
+    let image = parse_bytes(alloc, bytes)?;
+    read_object(alloc, &image)
 }
 
 /// What is answered where there is no object.
-fn unread(fault: Fault) -> Result<Verdict, ToolFault>
+fn unread(fault: BytesFault) -> Result<Verdict, ToolFault>
     ensures { result ≡ unread_answer fault }
 {
     match fault {
-        Fault::Rule { rule, at } => Ok(refused(rule, at)),
-        // Nothing is read, so this does not come.
-        Fault::Io { at } => Err(ToolFault::Read { at }),
-        Fault::OutOfMemory => Err(ToolFault::OutOfMemory),
+        BytesFault::Rule { rule, at } => Ok(refused(rule, at)),
+        BytesFault::OutOfMemory => Err(ToolFault::OutOfMemory),
     }
 }
 

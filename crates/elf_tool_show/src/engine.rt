@@ -12,8 +12,8 @@ use crate::show_lines::{push_file_line, push_part_line, push_section_line, push_
 use crate::show_tables::show_tables;
 use elf_image_outline::Part;
 use elf_image_rules::Broken;
-use elf_image_stream::{Fault, write_whole};
-use elf_image_type::{Image, parse};
+use elf_image_stream::{BytesFault, write_whole};
+use elf_image_type::{Image, parse_bytes};
 use elf_table_all::Tables;
 use elf_tool_check::{Refusal, ToolFault, Verdict, read_input, refused_line};
 use elf_tool_text::Output;
@@ -58,7 +58,7 @@ pub fn show_bytes<W: Write>(
 ) -> Result<Verdict, ToolFault>
     ensures { IsShownOf bytes.now (W.contents writer.old) (W.contents writer.new) result }
 {
-    match parse(alloc, bytes) {
+    match parse_bytes(alloc, bytes) {
         Ok(image) => {
             // Validated before the first line is written.
             let tables = Tables::new(alloc, &image)?;
@@ -66,13 +66,11 @@ pub fn show_bytes<W: Write>(
             show_image(alloc, bytes, &image, &tables, writer)?;
             Ok(Verdict::Done)
         }
-        Err(Fault::Rule { rule, at }) => {
+        Err(BytesFault::Rule { rule, at }) => {
             show_refusal(alloc, rule, at, writer)?;
             Ok(Verdict::Refused(Refusal::File { file: 0, rule, at }))
         }
-        Err(Fault::OutOfMemory) => Err(ToolFault::OutOfMemory),
-        // No reader is called while bytes are validated.
-        Err(Fault::Io { .. }) => unreachable!(),
+        Err(BytesFault::OutOfMemory) => Err(ToolFault::OutOfMemory),
     }
 }
 

@@ -16,9 +16,9 @@ ghost use Rattle.elf_table_symbols.specs.declared.table_section.TableKind.TheVar
 
 use elf_field::Dyn;
 use elf_image_rules::Broken;
-use elf_image_stream::Fault;
+use elf_image_stream::BytesFault;
 use elf_image_type::strings::string_at;
-use elf_image_type::{Image, parse};
+use elf_image_type::{Image, parse_bytes};
 use elf_table_all::{
     Dynamic, Group, Hash, Note, Notes, Place, Relocation, Relocs, Symbol, Symbols, TableKind,
     Tables, is_string_tag,
@@ -453,16 +453,16 @@ pub fn push_refused_tables(
     ensures { IfOk result
         (λ verdict. (said : List ℕ) × RefusedTablesSay bytes.now verdict said × (text.new.items ≡ text.old.items ++ said)) }
 {
-    match parse(alloc, bytes) {
+    match parse_bytes(alloc, bytes) {
         Ok(image) => {
             let tables = Tables::new(alloc, &image)?;
             push_lines(alloc, &RefusedTables { tables: &tables }, text)?;
             Ok(Verdict::Done)
         }
-        Err(Fault::Rule { rule, at }) => Ok(Verdict::Refused(Refusal::File { file: 0, rule, at })),
-        Err(Fault::OutOfMemory) => Err(ToolFault::OutOfMemory),
-        // No reader is called while bytes are validated.
-        Err(Fault::Io { .. }) => unreachable!(),
+        Err(BytesFault::Rule { rule, at }) => {
+            Ok(Verdict::Refused(Refusal::File { file: 0, rule, at }))
+        }
+        Err(BytesFault::OutOfMemory) => Err(ToolFault::OutOfMemory),
     }
 }
 
