@@ -1,5 +1,6 @@
 -- The widths of fields, one after the other.
-use Rattle.std.proofs.Common.{◌≡◌, ℕ, ◌+◌, ◌<◌, ◌≤◌, List, [], ◌∷◌, ◌++◌, ap, arith, drop, get_or, take, take-append-drop, length}
+use Rattle.std.proofs.Common.{◌≡◌, ℕ, ◌+◌, ◌-◌, ◌<◌, ◌≤◌, List, [], ◌∷◌, ◌++◌, ap, arith, drop, get_or, length, suc, take}
+use Rattle.std.proofs.Common.{take-append-drop, zero}
 use Rattle.std.proofs.lemmas.List.{take_more}
 use Rattle.elf_c.specs.Fields.{IsFieldAt}
 use Rattle.elf_c_parts.specs.declared.room.Slot.{Slot}
@@ -29,3 +30,11 @@ field_inside ws x field is =
     let more = width_more ws is.index is.there in
     let part = width_part ws (is.index + 1) in
     omega (arith, more, part, is.start, is.width, is.before)
+
+-- if a byte is not in the first fields, there are more
+pub some_left : (ws : List ℕ) (k : ℕ) (x : ℕ) → width_of (take k ws) ≤ x → x < width_of ws → k < length ws
+some_left [] k x passed inside = absurd (omega (arith, inside))
+some_left (w ∷ ws) zero x passed inside = omega arith
+some_left (w ∷ ws) (suc k) x passed inside =
+    let tail = some_left ws k (x - w) (omega (arith, passed)) (omega (arith, passed, inside)) in
+    omega (arith, tail)

@@ -1,6 +1,6 @@
 //! The fields of records: which one a byte of a record is in (gABI chapter 4, ELF Header, Sections, Symbol Table, Relocation; chapter 5,
 //! Program Header, Dynamic Section).
-ghost use Rattle.std.specs.Prelude.{◌≡◌, ◌≤◌, ◌<◌, ◌^◌, MatchOption};
+ghost use Rattle.std.specs.Prelude.{◌≡◌, ◌<◌, ◌^◌};
 ghost use Rattle.elf_c.specs.Fields.{IsFieldAt, record_widths};
 ghost use Rattle.elf_field.specs.Record.{width_of};
 
@@ -47,9 +47,10 @@ const DYN_WIDTHS: &[u64] = &[8, 8];
 
 const WORD_WIDTHS: &[u64] = &[4];
 
-/// The field of a record that has its byte at this offset from its beginning; None past its end.
-pub fn field_at(kind: RecordKind, at: u64) -> Option<Slot>
-    ensures { MatchOption result (width_of (record_widths kind) ≤ at) (IsFieldAt (record_widths kind) at) }
+/// The field of a record that has its byte at this offset from its beginning, which is below its size.
+pub fn field_at(kind: RecordKind, at: u64) -> Slot
+    requires { at < width_of (record_widths kind) }
+    ensures { IsFieldAt (record_widths kind) at result }
 {
     field_in(widths_of(kind), at)
 }
@@ -71,18 +72,20 @@ fn widths_of(kind: RecordKind) -> &'static [u64]
     }
 }
 
-/// Of fields of these widths, one after the other, the one that has the byte at this offset; None past their end.
-pub fn field_in(widths: &[u64], at: u64) -> Option<Slot>
-    requires { width_of widths.now < 2 ^ 64 }
-    ensures { MatchOption result (width_of widths.now ≤ at) (IsFieldAt widths.now at) }
+/// Of fields of these widths, one after the other, the one that has the byte at this offset, which is below their sum.
+pub fn field_in(widths: &[u64], at: u64) -> Slot
+    requires short { width_of widths.now < 2 ^ 64 }
+    requires inside { at < width_of widths.now }
+    ensures { IsFieldAt widths.now at result }
 {
     let mut start = 0;
-    for k in 0..widths.len() {
-        let len = widths[k];
-        if at < start + len {
-            return Some(Slot { start, len });
-        }
-        start += len;
+    let mut k = 0;
+    while start + widths[k] <= at {
+        start += widths[k];
+        k += 1;
     }
-    None
+    Slot {
+        start,
+        len: widths[k],
+    }
 }

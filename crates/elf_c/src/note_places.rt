@@ -49,10 +49,7 @@ fn note_field(order: Order, content: &[u8], at: usize, inner: u64) -> Slot
     ensures { IsFieldAt (widths_of_note order content.now at) inner result }
 {
     let widths = note_widths(order, content, at);
-    let Some(field) = field_in(&widths, inner) else {
-        unreachable!()
-    };
-    field
+    field_in(&widths, inner)
 }
 
 /// The widths of the fields of the whole note at an offset of a content: three words, the name and the descriptor.

@@ -138,16 +138,13 @@ fn place_among(records: Records, offset: u64) -> Place
     let size = size_of(records.kind);
     let entry = (offset - records.start) / size;
     let inner = (offset - records.start) % size;
-    let Some(field) = field_at(records.kind, inner) else {
-        unreachable!()
-    };
     Place {
         entry,
         record: Slot {
             start: offset - inner,
             len: size,
         },
-        field,
+        field: field_at(records.kind, inner),
     }
 }
 
