@@ -1576,6 +1576,9 @@ class TreeTest(Case):
         lines = [b"./a.o: " + SHARED, b"1 finding in 1 of 1 ELF file"]
         self.assertSaid(["."], 1, lines)
         self.assertSaid([".", "z", "z/bad.o", "c.o"], 1, [lines[0], lines[1]])
+        # The least path is the first one, in whatever order they are found.
+        for words in (["a.o", "c.o"], ["c.o", "a.o"], ["b.o", "z/bad.o", "a.o", "c.o"]):
+            self.assertSaid(words, 1, [b"a.o: " + SHARED, lines[1]])
 
     def test_what_is_named_twice(self):
         os.makedirs("a/b")
