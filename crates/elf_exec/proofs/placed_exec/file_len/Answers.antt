@@ -1,5 +1,5 @@
 -- The place of the last segment and its size are the end of the file, which is short.
-use Rattle.std.proofs.Common.{◌≡◌, ◌∙◌, ◌+◌, ℕ, ap, arith, length}
+use Rattle.std.proofs.Common.{◌≡◌, ◌+◌, ◌-◌, ℕ, ap, arith, length}
 use Rattle.std.specs.Prelude.{slice_index}
 use Rattle.elf_link_relocate.specs.Loads.{file_size, load_in, loads}
 use Rattle.elf_link_relocate.specs.declared.load.Load.{Load}
@@ -14,24 +14,24 @@ end_is p k place size load last at is long =
     let same = ap file_size is in
     omega arith
 
-pub returns-in_if : goal.returns-in_if
-returns-in_if c =
+pub returns-then-count-eq0 : goal.returns-then-count-eq0
+returns-then-count-eq0 c =
     let p = c.args.placed.now in
-    let none = no_end p.linked.map p.places (let count = c.count.ensures.value in omega arith) in
-    let count = c.count.ensures.value in
+    let none = no_end p.linked.map p.places (let count = c.count-count.ensures.value in omega arith) in
+    let count = c.count-count.ensures.value in
     omega arith
 
-pub overflow_add : goal.overflow_add
-overflow_add c =
+pub overflow_add-result : goal.overflow_add-result
+overflow_add-result c =
     let p = c.args.placed.now in
-    let count = c.count.ensures.value in
-    let end = end_is p c.last c.place.result c.file_size.result c.load.result
+    let count = c.count-count.ensures.value in
+    let end = end_is p (c.count-count.result - 1) c.place.result c.file_size.result c.load.result
     (omega arith) c.place.ensures c.load.ensures c.file_size.ensures in
-    let short = c.count.ensures.placed.short in
+    let short = c.count-count.ensures.placed.short in
     omega arith
 
 pub returns : goal.returns
 returns c =
-    let count = c.count.ensures.value in
-    end_is c.args.placed.now c.last c.place.result c.file_size.result c.load.result
+    let count = c.count-count.ensures.value in
+    end_is c.args.placed.now (c.count-count.result - 1) c.place.result c.file_size.result c.load.result
     (omega arith) c.place.ensures c.load.ensures c.file_size.ensures
