@@ -86,10 +86,10 @@ relocation_refused rules fs m link.OutOfMemory held is = Keeps-refl held
 
 -- How long what is said is, said of other words; nothing is as long as 0 bytes.
 
-pub length_as : {E : Type 0} {Fails : E → Type 0} (P Q : Verdict → List ℕ → Type 0) (result : Result (Verdict × ℕ) E) →
+pub length_as : {E : Type 0} (Fails : E → Type 0) (P Q : Verdict → List ℕ → Type 0) (result : Result (Verdict × ℕ) E) →
     ((v : Verdict) (t : List ℕ) → P v t → Q v t) → MatchResult result (HasLength P) Fails → MatchResult result (HasLength Q) Fails
-length_as P Q (Ok said) into (t, says, long) = (t, into said.0 t says, long)
-length_as P Q (Err fault) into fails = fails
+length_as Fails P Q (Ok said) into (t, says, long) = (t, into said.0 t says, long)
+length_as Fails P Q (Err fault) into fails = fails
 
 pub no_file_length : (opt : Options) (rules : List RelocRule) (files : List (List ℕ)) (unlinked : Unlinked) →
     IsUnlinked opt files unlinked →
@@ -99,8 +99,8 @@ no_file_length opt rules files (Refused (Link rule file index entry)) (fs, are, 
 no_file_length opt rules files (Refused TooLong) is = absurd is
 no_file_length opt rules files OutOfMemory is = refl
 
-pub no_exec_length : (rules : List RelocRule) (fs : List ObjectValue) (m : LinkMapValue) (fault : LinkFault) →
-    IsRelocationFault fs m rules fault →
-    MatchResult (unlinked_length (link_unlinked fault)) (HasLength (MapLinks rules fs m)) (λ out. out ≡ fault.OutOfMemory)
+pub no_exec_length : (rules : List RelocRule) (fs : List ObjectValue) (m : LinkMapValue) (cause : LinkFault) →
+    IsRelocationFault fs m rules cause →
+    MatchResult (unlinked_length (link_unlinked cause)) (HasLength (MapLinks rules fs m)) (λ out. out ≡ fault.OutOfMemory)
 no_exec_length rules fs m (link.Rule rule file index entry) is = ([], inr (is, refl), refl)
 no_exec_length rules fs m link.OutOfMemory is = refl

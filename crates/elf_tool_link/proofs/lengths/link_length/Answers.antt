@@ -6,7 +6,7 @@ pub returns-in-Ok : goal.returns-in-Ok
 returns-in-Ok c =
     let (objects, map, sound) = c.in-Ok.ensures in
     let mapped = c.in-Ok.mapped in
-    length_as _ _ c.mapped_length.result
+    length_as _ _ _ c.mapped_length.result
     (λ v text says. inl (mapped.objects, objects, inl (sound, (mapped.map, map, says)))) c.mapped_length.ensures
 
 pub returns-in-Err : goal.returns-in-Err

@@ -17,7 +17,7 @@ returns-in-Ok c =
     let l = c.in-Ok.linked in
     let mapped = c.args.mapped.now in
     let rules = c.args.rules.now in
-    length_as _ _ c.linked_length.result (λ v text says. inl (
+    length_as _ _ _ c.linked_length.result (λ v text says. inl (
       linked.sound,
       subst (λ (rs : List RelocRule). ExecSays mapped.objects mapped.map rs v text) linked.same_rules
           (subst (λ (m : LinkMapValue). ExecSays mapped.objects m l.rules v text) linked.same_map
