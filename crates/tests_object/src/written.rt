@@ -172,7 +172,11 @@ const PLACES: [(u64, usize); 10] = [
 fn set_section(file: &mut [u8], order: Order, at: u64, fields: &[u64; 10]) {
     for k in 0..10 {
         let (distance, width) = PLACES[k];
-        set(file, order, &[(at.wrapping_add(distance), width, fields[k])]);
+        set(
+            file,
+            order,
+            &[(at.wrapping_add(distance), width, fields[k])],
+        );
     }
 }
 
