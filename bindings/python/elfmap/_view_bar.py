@@ -63,8 +63,11 @@ def _notes(view: View, screen: Screen, lanes: int) -> Iterator[str]:
     totals: dict[str, int] = {}
     for it in view.with_gaps:
         totals[it.kind] = totals.get(it.kind, 0) + max(min(it.end, view.size) - it.start, 0)
+    mark = view.marks.of_all
     pieces = [
-        f"{letter} {kind} {totals[kind]:,}" for kind, letter in LETTERS.items() if totals.get(kind)
+        f"{letter} {kind} {totals[kind]:,}{mark}"
+        for kind, letter in LETTERS.items()
+        if totals.get(kind)
     ]
     yield from screen.text("  " + ", ".join(pieces), "  ", "dim")
     if lanes > 1:

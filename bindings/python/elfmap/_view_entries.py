@@ -50,7 +50,8 @@ _RELOCATION_COLUMNS = (
 
 def _table_title(view: View, screen: Screen, title: str, index: int, more: str) -> Iterator[str]:
     """The title of a table in a section, and whether it is sound."""
-    yield from screen.title(f"{title} of {view.section_name(index)}{more}")
+    name = view.section_name(index) + view.marks.name(index)
+    yield from screen.title(f"{title} of {name}{more}{view.marks.content(index)}")
     for it in view.faults.of_tables:
         if it.table == index:
             words = f"  {rule_words(it.rule)} at {it.at:#x}: see the findings"

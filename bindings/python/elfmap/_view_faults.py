@@ -254,12 +254,12 @@ class Marks:
             self._share(at)
         elif rule in PARTS["header"]:
             self._broken.add(("header", 0, field_at(HEADER, at)))
-        elif rule in PARTS["section"] and at >= words.table:
-            index, within = divmod(at - words.table, 64)
-            self._fields("section", index, field_at(SECTION, within), rule)
         elif rule in PARTS["segment"]:
             index, within = divmod(at - words.number(32, 8), 56)
             self._fields("segment", index, field_at(SEGMENT, within), rule)
+        elif rule not in PARTS["content"] and 0 <= at - words.table < 64 * words.count:
+            index, within = divmod(at - words.table, 64)
+            self._fields("section", index, field_at(SECTION, within), rule)
 
     def _fields(self, kind: str, index: int, field: str, rule: int) -> None:
         self._broken.add((kind, index, field))
@@ -288,6 +288,16 @@ class Marks:
 
     def header(self, field: str) -> str:
         return self._mark("header", 0, field, ())
+
+    @property
+    def of_sections(self) -> str:
+        """That of which sections there are."""
+        return DOUBTFUL if self._scopes & {ALL, SECTIONS} else ""
+
+    @property
+    def of_segments(self) -> str:
+        """That of which segments there are."""
+        return DOUBTFUL if self._scopes & {ALL, SEGMENTS} else ""
 
     def section(self, index: int, field: str) -> str:
         return self._mark("section", index, field, (SECTIONS,))

@@ -18,7 +18,6 @@ from elfmap._view_names import (
 )
 from elfmap._view_screen import Cell, Column, Screen
 from elfmap._words import HEADER
-from elfmap.constants import SHT
 
 # What rows are sorted by, for each order.
 Keys = dict[str, Callable[[int], Any]]
@@ -69,7 +68,7 @@ def header_lines(view: View, screen: Screen) -> Iterator[str]:
             value = view.words.number(at, width)
             words = _field_words(view, name, value)
         rows.append((Cell(f"{at:#x}"), Cell(name), Cell(words, marks.header(name))))
-    columns = Column("at", 0, True), Column("field"), Column("value")
+    columns = Column("at", 1, True), Column("field"), Column("value")
     yield from screen.table(columns, rows)
 
 
@@ -89,7 +88,7 @@ def _field_words(view: View, name: str, value: int) -> str:
 def section_lines(view: View, screen: Screen, filters: Filters, most: int = 0) -> Iterator[str]:
     """A table of sections; of a summary so many of them."""
     count = len(view.sections)
-    yield from screen.title(f"SECTIONS ({count})")
+    yield from screen.title(f"SECTIONS ({count}{view.marks.of_sections})")
     chosen = [it for it in range(count) if filters.takes_section(view, it)]
     keys: Keys = {
         "size": lambda it: -view.sections[it].sh_size,
@@ -147,7 +146,7 @@ def _past_end(view: View, screen: Screen) -> Iterator[str]:
 def segment_lines(view: View, screen: Screen, filters: Filters, most: int = 0) -> Iterator[str]:
     """A table of segments, each with its sections; of a summary so many of them."""
     count = len(view.segments)
-    yield from screen.title(f"SEGMENTS ({count})")
+    yield from screen.title(f"SEGMENTS ({count}{view.marks.of_segments})")
     chosen = list(range(count))
     keys: Keys = {
         "size": lambda it: -view.segments[it].p_memsz,
@@ -226,7 +225,7 @@ def part_lines(view: View, screen: Screen, filters: Filters) -> Iterator[str]:
         chosen.sort(key=lambda it: -it.size)
     elif filters.sort == "name":
         chosen.sort(key=lambda it: it.name)
-    yield from screen.title(f"PARTS ({len(view.with_gaps)})")
+    yield from screen.title(f"PARTS ({len(view.with_gaps)}{view.marks.of_all})")
     yield from screen.table(_PART_COLUMNS, (_part_row(view, it) for it in chosen))
 
 
@@ -247,8 +246,3 @@ def _part_row(view: View, it: Extent) -> Sequence[Cell]:
             (it.name or it.owner) + past, "" if it.section is None else view.marks.name(it.section)
         ),
     )
-
-
-def symbol_counts(view: View) -> dict[int, int]:
-    """How many entries the symbol tables have."""
-    return {it: len(view.image.symbols(it)) for it in view.tables(SHT.SYMTAB, SHT.DYNSYM)}

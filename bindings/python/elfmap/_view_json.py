@@ -48,6 +48,7 @@ def file_record(view: View) -> Record:
         "machine_name": MACHINES.get(view.machine),
         "build_id": origin.build_id or None,
         "producers": list(origin.producers),
+        "mark": _MARKS[view.marks.of_all],
         "sections": [_section(view, it) for it in range(len(view.sections))],
         "sections_missing": view.missing[0],
         "segments": [_segment(view, it) for it in range(len(view.segments))],
@@ -93,8 +94,11 @@ def _header(view: View) -> Record:
         is_named = not name.startswith("the ")
         if is_named:
             found[name] = view.words.number(at, width)
-        if view.marks.header(name):
-            marks[name if is_named else "e_ident"] = _MARKS[view.marks.header(name)]
+        mark = view.marks.header(name)
+        key = name if is_named else "e_ident"
+        # Of the parts of e_ident the one that breaks a rule says more.
+        if mark and marks.get(key) != _MARKS[BROKEN]:
+            marks[key] = _MARKS[mark]
     return {**found, "marks": marks}
 
 
@@ -229,7 +233,8 @@ def size_record(view: View) -> Record:
     """What `--sizes` prints: in each table the bytes in the file add up to its size."""
     tables = {"sections": by_section(view), "segments": by_segment(view)}
     tables["symbols"] = by_symbol(view)
-    return {name: [it._asdict() for it in sizes] for name, sizes in tables.items()}
+    every = {name: [it._asdict() for it in sizes] for name, sizes in tables.items()}
+    return {**every, "mark": _MARKS[view.marks.of_all]}
 
 
 def with_tables(view: View, symbols: bool, relocations: bool, sizes: bool) -> Record:

@@ -176,7 +176,9 @@ RELOCATION = _object(
     }
 )
 _SIZE = _object({"name": _TEXT, "file": _NUMBER, "memory": {"type": "integer", "minimum": 0}})
-_SIZES = _object({it: _list(_SIZE) for it in ("sections", "segments", "symbols")})
+_SIZES = _object(
+    {**{it: _list(_SIZE) for it in ("sections", "segments", "symbols")}, "mark": _MARK}
+)
 # The object of a file. One that has no header of class 64 has the required fields alone.
 SCHEMA: Schema = {
     "$schema": "https://json-schema.org/draft/2020-12/schema",
@@ -194,6 +196,8 @@ SCHEMA: Schema = {
             "machine_name": _MAYBE_TEXT,
             "build_id": _MAYBE_TEXT,
             "producers": _list(_TEXT),
+            # That of what is not a field of a record: the build id, the producers and the machine.
+            "mark": _MARK,
             "sections": _list(_SECTION),
             "sections_missing": {"type": "integer", "minimum": 0},
             "segments": _list(_SEGMENT),

@@ -68,8 +68,10 @@ def find_lines(view: View, name: str, demangler: Demangler) -> Iterator[str]:
     for index, section in enumerate(view.sections):
         if section.name and _fits(printable(section.name), name):
             mark = view.marks.name(index)
+            fields = (view.marks.section(index, it) for it in ("sh_offset", "sh_size"))
+            more = next((it for it in fields if it), "")
             place = f"[{section.sh_offset:#x}, {view.content_end(section):#x})"
-            yield f"section {view.section_name(index)}{mark} {place}"
+            yield f"section {view.section_name(index)}{mark} {place}{more}"
     for table in view.tables(SHT.SYMTAB, SHT.DYNSYM):
         for symbol in view.symbols(table):
             it = symbol.it
