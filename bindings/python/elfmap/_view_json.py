@@ -89,7 +89,7 @@ def _verdict(view: View) -> Record:
 
 def _header(view: View) -> Record:
     found: Record = {"e_ident": view.data[:16].hex()}
-    marks = {}
+    marks: Record = {}
     for name, (at, width) in HEADER.items():
         is_named = not name.startswith("the ")
         if is_named:

@@ -83,8 +83,9 @@ class ScreenTest(Case):
 
     def golden(self, made, width):
         """The summary of a file with code, a symbol table, names, and names of sections."""
-        own, data = made.starts, made.data
-        names, table, size = made.names, made.table, len(data)
+        own = made.starts
+        names = made.names
+        size = len(made.data)
         gaps = size - 64 - 8 - 48 - 3 - 33 - 5 * 64
         counts = f"H header and tables {64 + 5 * 64}, C code 8, S symbols and strings {48 + 3 + 33}"
         wide = [
@@ -92,7 +93,8 @@ class ScreenTest(Case):
             f"   1  PROGBITS  AX         0x0    {own[1]:#x}     8     0     0      1      0  .text",
             f"   2  SYMTAB    -          0x0    {own[2]:#x}    48     3     1      1     24  .symtab",
             f"   3  STRTAB    -          0x0    {own[3]:#x}     3     0     0      1      0  .strtab",
-            f"   4  STRTAB    -          0x0    {names:#x}    33     0     0      1      0  .shstrtab",
+            f"   4  STRTAB    -          0x0    {names:#x}    33     0     0      1      0"
+            "  .shstrtab",
         ]
         titles = "  #  type      flags  address  offset  size  link  info  align  entry  name"
         bar = self.bar(made, width - 4)
@@ -110,7 +112,7 @@ class ScreenTest(Case):
             "",
             "SECTIONS (5)",
             titles,
-            *(it[1:].replace("0x0     0x0", "0x0     0x0") for it in wide),
+            *(it[1:] for it in wide),
             "",
             "LARGEST",
             "  bytes  of         what  name",
@@ -181,6 +183,16 @@ class ScreenTest(Case):
                 self.assertEqual([it for it in lines if len(it) > width], [], width)
         row = self.block("SECTIONS", "--width", "60", "a.o")[3].split()
         self.assertEqual((row[0], row[-2:]), ("2", ["48", ".symtab"]))
+
+    def test_a_mark_on_a_narrow_screen(self):
+        """A column that has a value that breaks a rule is not left out."""
+        self.put(a__o=Made(text()).with_field(1, "align", 3))
+        for width, titles in (("60", ["align", "name"]), ("200", ["align", "entry", "name"])):
+            rows = self.block("SECTIONS", "--width", width, "a.o", status=1)
+            self.assertEqual(rows[0].split()[-len(titles) :], titles)
+            self.assertIn("3!", rows[2].split())
+        self.put(good__o=GOOD)
+        self.assertNotIn("align", self.block("SECTIONS", "--width", "60", "good.o")[0])
 
     def test_the_width(self):
         """That of the option, or of COLUMNS; in a pipe there is no limit."""
@@ -258,7 +270,9 @@ class BrokenTest(Case):
         content = Path(TRUE).read_bytes()
         self.put(cut=content[:1000])
         found = self.json("cut", status=1)
-        shoff, phnum, shnum = (*struct.unpack_from("<Q", content, 40), content[56], content[60])
+        (shoff,) = struct.unpack_from("<Q", content, 40)
+        phnum = content[56]
+        shnum = content[60]
         faults = found["verdict"]["faults"]
         self.assertEqual(
             (faults[0]["name"], faults[0]["offset"]), ("FIRST_SECTION_HEADER_PAST_END", 40)
@@ -412,7 +426,8 @@ class ReadelfTest(Case):
         self.assertEqual(len(rows), len(found))
         shown = [it.split() for it in self.block("SEGMENTS", "--segments", TRUE)[1:]]
         for own, mine, line in zip(rows, found, shown):
-            kind, flags = own[0], own[6].replace(" ", "").replace("E", "X")
+            kind = own[0]
+            flags = own[6].replace(" ", "").replace("E", "X")
             numbers = [int(it, 16) for it in (*own[1:6], own[7])]
             fields = ("p_offset", "p_vaddr", "p_paddr", "p_filesz", "p_memsz", "p_align")
             self.assertEqual((mine["type"], [mine[it] for it in fields]), (kind, numbers))
@@ -566,7 +581,8 @@ class JsonTest(Case):
             self.assertEqual(list(wrong(it, self_described)), [], name)
             self.assertEqual(it["schema"], "elfmap-view/1")
             self.assertEqual(it["size"], os.path.getsize(name))
-            self.assertEqual(bytes.fromhex(it["path_hex"]) if "path_hex" in it else NAME, NAME)
+            own = it["path_hex"] if name == os.fsdecode(NAME) else it.get("path_hex")
+            self.assertEqual(own, NAME.hex() if name == os.fsdecode(NAME) else None)
         # The validator here refuses what does not fit.
         for key, value in (("size", -1), ("size", "1"), ("header", {}), ("more", 1)):
             self.assertNotEqual(list(wrong({**found[0], key: value}, self_described)), [])
@@ -643,7 +659,8 @@ class SearchTest(Case):
         entry = found["header"]["e_entry"]
         (own,) = [it for it in found["sections"] if it["name"] == ".text"]
         offset = entry - own["sh_addr"] + own["sh_offset"]
-        told = f"  address {entry:#x}: .text + {entry - own['sh_addr']:#x}, offset {offset:#x} of the file"
+        within = f".text + {entry - own['sh_addr']:#x}"
+        told = f"  address {entry:#x}: {within}, offset {offset:#x} of the file"
         self.assertIn(told, self.view("--at", hex(entry), TRUE))
         self.assertIn("  address 0x7fffffff: not loaded", self.view("--at", "0x7fffffff", TRUE))
         self.assertEqual(self.ran("--at", "x", TRUE)[0], 2)
