@@ -40,12 +40,11 @@ def hex_lines(view: View, screen: Screen, word: str) -> Iterator[str]:
     """Bytes in hexadecimal and as letters, 16 a line; a byte that breaks a rule is marked."""
     start, end = extent_of(view, word)
     yield from screen.title(f"BYTES [{start:#x}, {end:#x})")
-    faults = {it.at for it in view.faults.every}
     for at in range(start, min(end, view.size), _LINE):
         line = view.data[at : min(at + _LINE, end, view.size)]
         codes = " ".join(f"{it:02x}" for it in line)
         letters = "".join(chr(it) if 0x20 <= it < 0x7F else "." for it in line)
-        marked = [it for it in sorted(faults) if at <= it < at + len(line)]
+        marked = view.marks.broken_in(at, at + len(line))
         more = "".join(f"  ! at {it:#x}" for it in marked)
         words = f"  {at:08x}  {codes:<{3 * _LINE}} {letters:<{_LINE}}{more}".rstrip()
         yield screen.paint(words, "red") if marked else words

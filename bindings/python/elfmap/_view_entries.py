@@ -52,10 +52,10 @@ def _table_title(view: View, screen: Screen, title: str, index: int, more: str) 
     """The title of a table in a section, and whether it is sound."""
     name = view.section_name(index) + view.marks.name(index)
     yield from screen.title(f"{title} of {name}{more}{view.marks.content(index)}")
-    for it in view.faults.of_tables:
-        if it.table == index:
-            words = f"  {rule_words(it.rule)} at {it.at:#x}: see the findings"
-            yield from screen.text(words, "  ", "red")
+    fault = view.faults.by_table.get(index)
+    if fault:
+        words = f"  {rule_words(fault.rule)} at {fault.at:#x}: see the findings"
+        yield from screen.text(words, "  ", "red")
     if index in view.faults.untested:
         words = "  it is not tested: it depends on a section that breaks a rule"
         yield from screen.text(words, "  ", "yellow")
@@ -148,26 +148,32 @@ def relocation_lines(
 def _relocation_rows(
     view: View, table: int, filters: Filters, demangler: Demangler
 ) -> Iterator[Sequence[Cell]]:
-    link = view.sections[table].sh_link
     names = relocation_types(view.machine)
+    named = _named_relocations(view, table)
+    chosen = (it for it in named if filters.takes_name(it[2]))
+    while some := list(itertools.islice(chosen, _NAMES_AT_ONCE)):
+        demangler.learn(name for _, _, name in some)
+        for index, it, name in some:
+            mark = view.marks.entry(table, *_place(view, table, index))
+            yield (
+                Cell(str(index)),
+                Cell(f"{it.r_offset:#x}", mark),
+                Cell(names.get(it.relocation_type, str(it.relocation_type)), mark),
+                Cell(f"{it.r_addend:#x}", mark),
+                Cell(demangler.name(name), mark if name else ""),
+            )
+
+
+def _named_relocations(view: View, table: int) -> Iterator[tuple[int, elfmap.Relocation, str]]:
+    """The relocations of a table that lie in the file, and the names of their symbols."""
+    link = view.sections[table].sh_link
     every = view.image.relocations(table)
     for index in range(min(len(every), view.size // 16)):
         try:
             it = every[index]
         except IndexError:
             continue
-        name = _relocated_name(view, link, it)
-        if not filters.takes_name(name):
-            continue
-        demangler.learn([name])
-        mark = view.marks.entry(table, *_place(view, table, index))
-        yield (
-            Cell(str(index)),
-            Cell(f"{it.r_offset:#x}", mark),
-            Cell(names.get(it.relocation_type, str(it.relocation_type)), mark),
-            Cell(f"{it.r_addend:#x}", mark),
-            Cell(demangler.name(name), mark if name else ""),
-        )
+        yield index, it, _relocated_name(view, link, it)
 
 
 def _relocated_name(view: View, link: int, it: elfmap.Relocation) -> str:

@@ -7,7 +7,9 @@ unless it depends on what was left out.
 
 from __future__ import annotations
 
+import bisect
 from collections.abc import Iterable
+from functools import cached_property
 from typing import Optional, Union
 
 import elfmap
@@ -29,12 +31,18 @@ from elfmap._words import (
 # After a value that breaks a rule, and after one that depends on such a value.
 BROKEN = "!"
 DOUBTFUL = "?"
-# So many faults of a file are looked for.
+# So many faults of a file are looked for: fewer in a file of very many sections.
 MOST_FAULTS = 64
+_LEAST_FAULTS = 4
+_MOST_HEADERS = 1 << 20
 # Names are left out of a copy one by one.
 _MOST_NAMES = 1 << 16
 _LOAD_OUT_OF_ORDER = 29
-SECTIONS, SEGMENTS, NAMES, ALL = "sections", "segments", "names", "all"
+# What as a whole may depend on a fault.
+SECTIONS = "sections"
+SEGMENTS = "segments"
+NAMES = "names"
+ALL = "all"
 # What depends on the value that a rule is about, if that is more than the record that has it.
 _SCOPES = {
     **dict.fromkeys((1, 2, 3, 4, 5, 6, 7), ALL),
@@ -81,7 +89,8 @@ class _Mender:
     def mend(self, fault: Fault) -> bool:
         """Whether the copy no longer has this fault."""
         self._words = Words(self.copy)
-        rule, at = fault.rule, fault.at
+        rule = fault.rule
+        at = fault.at
         if rule in _RIGHT:
             return self._put(*_RIGHT[rule])
         if rule == 9:
@@ -182,13 +191,19 @@ class Faults:
     def every(self) -> list[Fault]:
         return [*self.of_image, *self.of_tables]
 
+    @cached_property
+    def by_table(self) -> dict[int, Fault]:
+        """Those of tables, by their sections."""
+        return {it.table: it for it in self.of_tables if it.table is not None}
+
     def _find(self, data: bytes) -> None:
         fault = _verdict(data)
         if not fault:
             self._judge(data, data)
             return
         mender = _Mender(data)
-        for _ in range(MOST_FAULTS):
+        count = max(Words(data).count, 1)
+        for _ in range(min(MOST_FAULTS, max(_MOST_HEADERS // count, _LEAST_FAULTS))):
             if not fault:
                 break
             self._add(fault)
@@ -197,7 +212,8 @@ class Faults:
                 break
             fault = _verdict(mender.copy)
         self.is_complete = fault is None
-        self.lost, self.left_out = mender.lost, mender.left_out
+        self.lost = mender.lost
+        self.left_out = mender.left_out
         if self.is_complete and SECTIONS not in self.lost:
             self._judge(mender.copy, data)
 
@@ -240,14 +256,16 @@ class Marks:
         self._scopes = set(faults.lost)
         if not faults.is_complete:
             self._scopes.add(ALL)
-        self._tables = {it.table for it in faults.of_tables} | faults.untested
+        self._tables = {*faults.by_table} | faults.untested
         for it in faults.every:
             self._scopes |= {_SCOPES[it.rule]} if it.rule in _SCOPES else set()
             self._place(it)
+        self._offsets.sort()
 
     def _place(self, fault: Fault) -> None:
         """Marks the field that has the offset of a fault, and those that it is compared with."""
-        rule, at = fault.rule, fault.at
+        rule = fault.rule
+        at = fault.at
         words = self._words
         self._offsets.append(at)
         if rule == SHARED_BYTE:
@@ -317,9 +335,12 @@ class Marks:
 
     def entry(self, index: int, start: int, size: int) -> str:
         """That of an entry of the table in a section, at this place of the file."""
-        if any(start <= it < start + size for it in self._offsets):
-            return BROKEN
-        return self.content(index)
+        return BROKEN if self.broken_in(start, start + size) else self.content(index)
+
+    def broken_in(self, start: int, end: int) -> list[int]:
+        """The offsets from one to below another at which a rule is broken."""
+        first = bisect.bisect_left(self._offsets, start)
+        return self._offsets[first : bisect.bisect_left(self._offsets, end)]
 
     @property
     def of_all(self) -> str:

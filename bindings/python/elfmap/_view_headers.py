@@ -18,9 +18,13 @@ from elfmap._view_names import (
 )
 from elfmap._view_screen import Cell, Column, Screen
 from elfmap._words import HEADER
+from elfmap.constants import PT
 
 # What rows are sorted by, for each order.
 Keys = dict[str, Callable[[int], Any]]
+# So many names of sections are in a row, and so many segments in a summary.
+_MOST_NAMES = 64
+_MOST_LOADS = 16
 _IN_HEX = ("e_entry", "e_phoff", "e_shoff", "e_flags")
 _SECTION_COLUMNS = (
     Column("#", 0, True),
@@ -104,7 +108,7 @@ def section_lines(view: View, screen: Screen, filters: Filters, most: int = 0) -
         yield f"  … {len(chosen) - len(shown)} more: --sections"
     elif not most:
         yield from screen.text(f"  {SECTION_KEY}", "  ", "dim")
-    yield from _past_end(view, screen)
+    yield from _past_end(view, screen, _ends_of_sections(view), most, "--sections")
     if view.missing[0]:
         words = f"  {view.missing[0]} section headers pass the end of the file"
         yield from screen.text(words, "  ", "red")
@@ -129,15 +133,29 @@ def _section_row(view: View, index: int) -> Sequence[Cell]:
     return Cell(str(index)), *cells, name
 
 
-def _past_end(view: View, screen: Screen) -> Iterator[str]:
-    """The contents that pass the end of the file."""
+def _ends_of_sections(view: View) -> Iterator[tuple[str, int, int]]:
     for index, it in enumerate(view.sections):
-        end = view.content_end(it)
-        if end > it.sh_offset and end > view.size:
-            name = view.section_name(index)
-            place = f"[{it.sh_offset:#x}, {end:#x})"
-            more = f"passes the end of the file, {view.size:#x}, by {end - view.size:,} bytes"
-            yield from screen.text(f"  {name} {place} {more}", "  ", "red")
+        yield view.section_name(index), it.sh_offset, view.content_end(it)
+
+
+def _ends_of_segments(view: View) -> Iterator[tuple[str, int, int]]:
+    for index, it in enumerate(view.segments):
+        if it.p_type != PT.NULL:
+            yield f"segment {index}", it.p_offset, it.p_offset + it.p_filesz
+
+
+def _past_end(
+    view: View, screen: Screen, places: Iterator[tuple[str, int, int]], most: int, option: str
+) -> Iterator[str]:
+    """What passes the end of the file, in words; of a summary so much."""
+    found = [it for it in places if it[1] < it[2] and it[2] > view.size]
+    shown = found[:most] if most else found
+    for name, start, end in shown:
+        place = f"  {name} [{start:#x}, {end:#x})"
+        more = f"passes the end of the file, {view.size:#x}, by {end - view.size:,} bytes"
+        yield from screen.text(f"{place} {more}", "  ", "red")
+    if len(shown) < len(found):
+        yield f"  … {len(found) - len(shown)} more: {option}"
 
 
 # ---- Segments
@@ -159,12 +177,7 @@ def segment_lines(view: View, screen: Screen, filters: Filters, most: int = 0) -
     yield from screen.table(_SEGMENT_COLUMNS, (_segment_row(view, it) for it in shown))
     if len(shown) < count:
         yield f"  … {count - len(shown)} more: --segments"
-    for index, it in enumerate(view.segments):
-        end = it.p_offset + it.p_filesz
-        if it.p_type and it.p_filesz and end > view.size:
-            place = f"  segment {index} [{it.p_offset:#x}, {end:#x})"
-            more = f"passes the end of the file, {view.size:#x}, by {end - view.size:,} bytes"
-            yield from screen.text(f"{place} {more}", "  ", "red")
+    yield from _past_end(view, screen, _ends_of_segments(view), most, "--segments")
     if view.missing[1]:
         words = f"  {view.missing[1]} program headers pass the end of the file"
         yield from screen.text(words, "  ", "red")
@@ -182,8 +195,15 @@ def _segment_row(view: View, index: int) -> Sequence[Cell]:
         "p_align": f"{it.p_align:#x}",
     }
     cells = [Cell(word, view.marks.segment(index, field)) for field, word in words.items()]
-    names = " ".join(view.section_name(it) for it in view.sections_in(it))
+    names = _names_in(view, index)
     return Cell(str(index)), *cells, Cell(names, view.marks.of_all if names else "")
+
+
+def _names_in(view: View, segment: int) -> str:
+    """The names of the sections that a segment has in memory, or of the first of them."""
+    found = view.sections_in(view.segments[segment], _MOST_NAMES)
+    more = " …" if len(found) > _MOST_NAMES else ""
+    return " ".join(map(view.section_name, found[:_MOST_NAMES])) + more
 
 
 def load_lines(view: View, screen: Screen) -> Iterator[str]:
@@ -193,12 +213,12 @@ def load_lines(view: View, screen: Screen) -> Iterator[str]:
         return
     yield from screen.title("LOADED")
     rows = []
-    for index in loads:
+    for index in loads[:_MOST_LOADS]:
         it = view.segments[index]
         mark = view.marks.segment(index, "p_vaddr") or view.marks.segment(index, "p_memsz")
         end = it.p_vaddr + it.p_memsz
         zeros = f"{it.p_memsz - it.p_filesz:,}" if it.p_memsz > it.p_filesz else ""
-        names = " ".join(view.section_name(it) for it in view.sections_in(it))
+        names = _names_in(view, index)
         row = Cell(f"{it.p_vaddr:#x}", mark), Cell(f"{end:#x}", mark)
         flags = Cell(flags_words(it.p_flags, SEGMENT_FLAGS), view.marks.segment(index, "p_flags"))
         file = Cell(f"{it.p_offset:#x}", view.marks.segment(index, "p_offset"))
@@ -213,6 +233,8 @@ def load_lines(view: View, screen: Screen) -> Iterator[str]:
         Column("sections"),
     )
     yield from screen.table(columns, rows)
+    if len(loads) > _MOST_LOADS:
+        yield f"  … {len(loads) - _MOST_LOADS} more: --segments"
 
 
 # ---- Parts

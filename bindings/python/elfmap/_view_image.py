@@ -4,6 +4,8 @@ from __future__ import annotations
 
 import bisect
 import ctypes
+import heapq
+import itertools
 from collections.abc import Callable, Iterator
 from functools import cached_property
 from typing import Any, NamedTuple, Optional, TypeVar
@@ -13,7 +15,7 @@ from elfmap import _declared
 from elfmap._archives import Content
 from elfmap._sources import LONGEST, Unreadable
 from elfmap._view_faults import Faults, Marks
-from elfmap._words import Words, printable
+from elfmap._words import LONGEST_NAME, Words, printable
 from elfmap.constants import EI_DATA, PT, SHF, SHN, SHT, STT
 from elfmap.picture import TYPES, colour_of_flags, colour_of_type
 
@@ -22,7 +24,9 @@ _Record = TypeVar("_Record")
 MOST_LETTERS = 200
 _LEAST_SIZE = 64
 _MAGIC = b"\x7fELF\2"
-_HEADER_SIZE, _SECTION_SIZE, _SEGMENT_SIZE = 64, 64, 56
+_HEADER_SIZE = 64
+_SECTION_SIZE = 64
+_SEGMENT_SIZE = 56
 _GAP = "gap"
 # Symbols that name no place: of files, and of sections, which have a name by themselves.
 _NO_PLACES = (STT.FILE, STT.SECTION, STT.TLS)
@@ -49,10 +53,16 @@ class Image(elfmap.File):
         file."""
         it = self._filled(_declared.Header, "elfmap_header")
         own = _declared.File(e_phoff=it.e_phoff, e_shoff=it.e_shoff, ei_data=it.e_ident[EI_DATA])
-        own.sections, own.name_table = it.e_shnum, it.e_shstrndx
+        own.sections = it.e_shnum
+        own.name_table = it.e_shstrndx
         # Section header 0 would have a count that does not fit.
         own.segments = 0 if it.e_phnum == SHN.XINDEX else it.e_phnum
         return own
+
+    def _symbol(self, _: _declared.Table, it: _declared.Symbol) -> elfmap.Symbol:
+        """A symbol with so much of its name: names may share bytes."""
+        name = self._at(it.name.start, min(it.name.len, LONGEST_NAME))
+        return elfmap.Symbol(bytes(name), *elfmap._values(it)[1:])
 
     @property
     def counts(self) -> tuple[int, int]:
@@ -297,15 +307,20 @@ class View:
 
     @cached_property
     def lanes(self) -> list[list[Extent]]:
-        """The parts side by side: those that overlap are in different lanes."""
+        """The parts side by side: each is in the first lane that is free where it begins."""
         found: list[list[Extent]] = []
+        free: list[int] = []
+        busy: list[tuple[int, int]] = []
         for it in self.parts:
-            for lane in found:
-                if lane[-1].end <= it.start:
-                    lane.append(it)
-                    break
+            while busy and busy[0][0] <= it.start:
+                heapq.heappush(free, heapq.heappop(busy)[1])
+            if free:
+                lane = heapq.heappop(free)
             else:
-                found.append([it])
+                lane = len(found)
+                found.append([])
+            found[lane].append(it)
+            heapq.heappush(busy, (it.end, lane))
         return found
 
     # ---- Memory
@@ -314,19 +329,28 @@ class View:
         """The loadable segments."""
         return [index for index, it in enumerate(self.segments) if it.p_type == PT.LOAD]
 
-    def sections_in(self, segment: elfmap.Segment) -> list[int]:
-        """The sections that a segment has in memory; of one that is not loaded, in the file."""
-        found = []
-        for index, it in enumerate(self.sections):
-            if not it.sh_flags & SHF.ALLOC or it.sh_type == SHT.NULL:
-                continue
-            start, size = (it.sh_addr, segment.p_memsz) if segment.p_memsz else (it.sh_offset, 0)
-            base = segment.p_vaddr if segment.p_memsz else segment.p_offset
+    @cached_property
+    def _loaded(self) -> list[tuple[int, int]]:
+        """The addresses of the sections that are loaded, and their indices."""
+        every = enumerate(self.sections)
+        return sorted((it.sh_addr, k) for k, it in every if it.sh_flags & SHF.ALLOC and it.sh_type)
+
+    def sections_in(self, segment: elfmap.Segment, most: int) -> list[int]:
+        """The sections that a segment has in memory, in their order: all, or one more than so
+        many."""
+        base = segment.p_vaddr
+        size = segment.p_memsz
+        first = bisect.bisect_left(self._loaded, (base, 0))
+        found: list[int] = []
+        for address, index in itertools.islice(self._loaded, first, None):
+            if address > base + size or not size or len(found) > most:
+                break
+            it = self.sections[index]
+            # What is thread-local and has no bytes takes no place in other segments.
             is_tls = it.sh_flags & SHF.TLS and it.sh_type == SHT.NOBITS
-            if base <= start and start + it.sh_size <= base + size and size:
-                if not is_tls or segment.p_type == PT.TLS:
-                    found.append(index)
-        return found
+            if address + it.sh_size <= base + size and (not is_tls or segment.p_type == PT.TLS):
+                found.append(index)
+        return sorted(found)
 
     def section_at(self, address: int) -> Optional[int]:
         """The section that has an address in memory."""

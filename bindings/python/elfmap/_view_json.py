@@ -22,7 +22,7 @@ from elfmap._view_names import (
     symbol_type,
     symbol_visibility,
 )
-from elfmap._view_schema import FIELDS_OF_SECTION, FIELDS_OF_SEGMENT, VERSION
+from elfmap._view_schema import FIELDS_OF_SECTION, FIELDS_OF_SEGMENT, MOST_SECTIONS, VERSION
 from elfmap._view_sizes import by_section, by_segment, by_symbol
 from elfmap._words import ENTRY_SIZES, HEADER, explain, printable
 from elfmap.constants import SHT
@@ -126,7 +126,8 @@ def _segment(view: View, index: int) -> Record:
         "index": index,
         "type": segment_type(it.p_type),
         **own,
-        "sections": view.sections_in(it),
+        # Of very many segments and sections the list would be too long.
+        "sections": view.sections_in(it, MOST_SECTIONS)[:MOST_SECTIONS],
         "past_end": max(it.p_offset + it.p_filesz - view.size, 0) if it.p_type else 0,
         "marks": {field: _MARKS[mark] for field, mark in marks.items() if mark},
     }

@@ -9,6 +9,8 @@ from __future__ import annotations
 from typing import Any
 
 VERSION = "elfmap-view/1"
+# So many sections of a segment are listed.
+MOST_SECTIONS = 1024
 FIELDS_OF_SECTION = (
     "sh_type",
     "sh_flags",
@@ -101,7 +103,7 @@ _SEGMENT = _object(
         "index": _NUMBER,
         "type": _TEXT,
         **dict.fromkeys(FIELDS_OF_SEGMENT, _NUMBER),
-        "sections": _list(_NUMBER),
+        "sections": {**_list(_NUMBER), "maxItems": MOST_SECTIONS},
         "past_end": {"type": "integer", "minimum": 0},
         "marks": _MARKS,
     }

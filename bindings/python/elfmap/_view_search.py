@@ -5,6 +5,7 @@ from __future__ import annotations
 import fnmatch
 from collections.abc import Iterator
 
+import elfmap
 from elfmap._view_demangle import Demangler
 from elfmap._view_image import View, defined_words
 from elfmap._view_names import symbol_binding, symbol_type
@@ -64,7 +65,7 @@ def nearest_words(view: View, section: int, value: int, demangler: Demangler) ->
 
 
 def find_lines(view: View, name: str, demangler: Demangler) -> Iterator[str]:
-    """Where a name is: as that of a section, of a symbol, or of a library."""
+    """Where a name is: as that of a section or of a symbol."""
     for index, section in enumerate(view.sections):
         if section.name and _fits(printable(section.name), name):
             mark = view.marks.name(index)
@@ -73,20 +74,21 @@ def find_lines(view: View, name: str, demangler: Demangler) -> Iterator[str]:
             place = f"[{section.sh_offset:#x}, {view.content_end(section):#x})"
             yield f"section {view.section_name(index)}{mark} {place}{more}"
     for table in view.tables(SHT.SYMTAB, SHT.DYNSYM):
-        for symbol in view.symbols(table):
-            it = symbol.it
-            own = view.symbol_name(it)
-            if not it.name or not _fits(own, name):
-                continue
-            demangler.learn([own])
-            mark = view.marks.content(table)
-            kind = f"{symbol_binding(it.binding)} {symbol_type(it.symbol_type)}"
-            words = f"symbol {demangler.name(own)}{mark} in {view.section_name(table)}: {kind}"
-            if it.st_shndx == SHN.UNDEF:
-                yield f"{words}, undefined"
-            else:
-                place = defined_words(view, it)
-                yield f"{words}, {place} {it.st_value:#x}, {it.st_size:,} bytes{mark}"
+        every = (it.it for it in view.symbols(table) if it.it.name)
+        found = [it for it in every if _fits(view.symbol_name(it), name)]
+        demangler.learn(map(view.symbol_name, found))
+        yield from (_symbol_line(view, table, it, demangler) for it in found)
+
+
+def _symbol_line(view: View, table: int, it: elfmap.Symbol, demangler: Demangler) -> str:
+    """A symbol: its name, its table, and where it is defined."""
+    mark = view.marks.content(table)
+    own = demangler.name(view.symbol_name(it)) + mark
+    kind = f"{symbol_binding(it.binding)} {symbol_type(it.symbol_type)}"
+    words = f"symbol {own} in {view.section_name(table)}: {kind}"
+    if it.st_shndx == SHN.UNDEF:
+        return f"{words}, undefined"
+    return f"{words}, {defined_words(view, it)} {it.st_value:#x}, {it.st_size:,} bytes{mark}"
 
 
 def _fits(own: str, name: str) -> bool:

@@ -32,7 +32,8 @@ def pieces(view: View) -> Iterator[Extent]:
     """The file cut into its parts and gaps: each byte is in one of them."""
     at = 0
     for it in view.with_gaps:
-        start, end = max(it.start, at), min(it.end, view.size)
+        start = max(it.start, at)
+        end = min(it.end, view.size)
         if start < end:
             yield it._replace(start=start, end=end)
             at = end
@@ -66,7 +67,8 @@ def by_segment(view: View) -> list[Size]:
     order = sorted(view.loads(), key=lambda it: view.segments[it].p_offset)
     for index in order:
         it = view.segments[index]
-        start, end = max(it.p_offset, at), min(it.p_offset + it.p_filesz, view.size)
+        start = max(it.p_offset, at)
+        end = min(it.p_offset + it.p_filesz, view.size)
         own = max(end - start, 0)
         at = max(at, end)
         loaded += own
@@ -124,8 +126,9 @@ def _places(view: View) -> dict[int, list[Place]]:
 def _cut(places: Iterable[Place], first: int, last: int) -> Iterator[tuple[str, int]]:
     """The bytes of symbols between two offsets, each byte once."""
     at = first
-    for start, end, name in places:
-        start, end = max(start, at), min(end, last)
+    for begins, ends, name in places:
+        start = max(begins, at)
+        end = min(ends, last)
         if start < end:
             yield name, end - start
             at = end
@@ -147,7 +150,8 @@ def _size_table(
 ) -> Iterator[str]:
     yield from screen.title(title)
     mark = view.marks.of_all
-    shown, others = list(sizes[:_MOST_ROWS]), sizes[_MOST_ROWS:]
+    shown = list(sizes[:_MOST_ROWS])
+    others = sizes[_MOST_ROWS:]
     demangler.learn(it.name for it in shown)
     if others:
         name = f"[{len(others)} more]"

@@ -78,7 +78,8 @@ def _first_bytes(view: View, screen: Screen) -> Iterator[str]:
 
 def _facts(view: View) -> Iterator[tuple[str, Cell]]:
     """What the file is: each fact by its name."""
-    marks, words = view.marks, view.words
+    marks = view.marks
+    words = view.words
     kind = words.number(16, 2)
     order = "big-endian" if words.order == ">" else "little-endian"
     name = FILE_TYPES.get(kind, f"file of type {kind}")

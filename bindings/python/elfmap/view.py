@@ -236,7 +236,8 @@ class Run:
 
     def _parts_of(self, view: View) -> Iterator[str]:
         """What is asked for of a file, after what is wrong with it."""
-        options, screen = self._options, self._screen
+        options = self._options
+        screen = self._screen
         yield from head_lines(view, screen)
         if view.has_header:
             blocks = self._blocks(view)
@@ -253,7 +254,8 @@ class Run:
 
     def _blocks(self, view: View) -> dict[str, Callable[[], Iterator[str]]]:
         own = view, self._screen
-        filters, demangler = self._filters, self._demangler
+        filters = self._filters
+        demangler = self._demangler
         return {
             "header": lambda: header_lines(*own),
             "sections": lambda: section_lines(*own, filters),

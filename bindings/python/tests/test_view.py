@@ -81,23 +81,23 @@ class Case(FolderCase):
 class ScreenTest(Case):
     """Whole screens. The numbers are those of what is made here."""
 
+    def section_rows(self, made):
+        """The rows of its sections: of each what comes before its offset, and what after it."""
+        rows = (
+            ("0  NULL      -          0x0     ", 0, "     0     0     0      0      0"),
+            ("1  PROGBITS  AX         0x0    ", made.starts[1], "     8     0     0      1      0"),
+            ("2  SYMTAB    -          0x0    ", made.starts[2], "    48     3     1      1     24"),
+            ("3  STRTAB    -          0x0    ", made.starts[3], "     3     0     0      1      0"),
+            ("4  STRTAB    -          0x0    ", made.names, "    33     0     0      1      0"),
+        )
+        names = ("", "  .text", "  .symtab", "  .strtab", "  .shstrtab")
+        return [f"  {it[0]}{it[1]:#x}{it[2]}{name}" for it, name in zip(rows, names)]
+
     def golden(self, made, width):
         """The summary of a file with code, a symbol table, names, and names of sections."""
-        own = made.starts
-        names = made.names
         size = len(made.data)
         gaps = size - 64 - 8 - 48 - 3 - 33 - 5 * 64
         counts = f"H header and tables {64 + 5 * 64}, C code 8, S symbols and strings {48 + 3 + 33}"
-        wide = [
-            "   0  NULL      -          0x0     0x0     0     0     0      0      0",
-            f"   1  PROGBITS  AX         0x0    {own[1]:#x}     8     0     0      1      0  .text",
-            f"   2  SYMTAB    -          0x0    {own[2]:#x}    48     3     1      1     24  .symtab",
-            f"   3  STRTAB    -          0x0    {own[3]:#x}     3     0     0      1      0  .strtab",
-            f"   4  STRTAB    -          0x0    {names:#x}    33     0     0      1      0"
-            "  .shstrtab",
-        ]
-        titles = "  #  type      flags  address  offset  size  link  info  align  entry  name"
-        bar = self.bar(made, width - 4)
         end = f"{size:#x}"
         return [
             "a.o",
@@ -106,13 +106,13 @@ class ScreenTest(Case):
             "  machine   62 (EM_X86_64), little-endian",
             f"  size      {size:,} bytes, 5 section headers, 0 program headers",
             "",
-            f"  |{bar}|",
+            f"  |{self.bar(made, width - 4)}|",
             f"  0x0{' ' * (width - 4 - len(end) - 1)}{end}",
             f"  {counts}, . gap {gaps}",
             "",
             "SECTIONS (5)",
-            titles,
-            *(it[1:] for it in wide),
+            "  #  type      flags  address  offset  size  link  info  align  entry  name",
+            *self.section_rows(made),
             "",
             "LARGEST",
             "  bytes  of         what  name",
@@ -533,7 +533,7 @@ def wrong(value, schema, place="$"):
         "null": type(None),
     }
     known = {"type", "enum", "anyOf", "minimum", "maximum", "pattern", "required", "properties"}
-    known |= {"additionalProperties", "items", "$schema", "$id"}
+    known |= {"additionalProperties", "items", "maxItems", "$schema", "$id"}
     assert set(schema) <= known, schema
     if "anyOf" in schema:
         every = [list(wrong(value, it, place)) for it in schema["anyOf"]]
@@ -552,6 +552,8 @@ def wrong(value, schema, place="$"):
     if isinstance(value, str) and not re.search(schema.get("pattern", ""), value):
         yield f"{place}: {value!r}"
     if isinstance(value, list):
+        if len(value) > schema.get("maxItems", len(value)):
+            yield f"{place}: {len(value)} items"
         for k, it in enumerate(value):
             yield from wrong(it, schema.get("items", {}), f"{place}[{k}]")
     if isinstance(value, dict):
