@@ -346,9 +346,7 @@ class View:
             if address > base + size or not size or len(found) > most:
                 break
             it = self.sections[index]
-            # What is thread-local and has no bytes takes no place in other segments.
-            is_tls = it.sh_flags & SHF.TLS and it.sh_type == SHT.NOBITS
-            if address + it.sh_size <= base + size and (not is_tls or segment.p_type == PT.TLS):
+            if address + it.sh_size <= base + size and _may_have(segment, it):
                 found.append(index)
         return sorted(found)
 
@@ -366,6 +364,15 @@ class View:
             if it.p_vaddr <= address < it.p_vaddr + it.p_filesz:
                 return it.p_offset + address - it.p_vaddr
         return None
+
+
+def _may_have(segment: elfmap.Segment, section: elfmap.Section) -> bool:
+    """Whether a segment has a section at its addresses. A thread-local section without bytes takes
+    no place in any other segment than that of type PT_TLS, which has no other sections."""
+    is_local = bool(section.sh_flags & SHF.TLS)
+    if segment.p_type == PT.TLS:
+        return is_local
+    return not is_local or section.sh_type != SHT.NOBITS
 
 
 def defined_words(view: View, it: elfmap.Symbol) -> str:

@@ -438,12 +438,21 @@ class ReadelfTest(Case):
             self.assertEqual(line[1:8], words)
 
     def test_sections_of_segments(self):
-        lines = self.readelf("-l", TRUE)
-        start = next(k for k, it in enumerate(lines) if "Segment Sections" in it) + 1
-        found = self.json(TRUE)
-        names = [it["name"] for it in found["sections"]]
-        for line, it in zip(lines[start:], found["segments"]):
-            self.assertEqual(line.split()[1:], [names[index] for index in it["sections"]], line)
+        Path("t.c").write_text(
+            "__thread int own = 1, other; static int count;\n"
+            "__attribute__((constructor)) static void begin(void) { count = own + other; }\n"
+        )
+        words = ["-shared", "-fPIC", "-nostdlib", "t.c", "-o", "t.so"]
+        subprocess.run(["cc", *words], check=True)
+        for name in ("t.so", TRUE):
+            lines = self.readelf("-l", name)
+            start = next(k for k, it in enumerate(lines) if "Segment Sections" in it) + 1
+            found = self.json(name)
+            names = [it["name"] for it in found["sections"]]
+            rows = zip(lines[start:], found["segments"])
+            for line, it in rows:
+                own = [names[index] for index in it["sections"]]
+                self.assertEqual(line.split()[1:], own, (name, line))
 
     def test_symbols(self):
         row = re.compile(r" +(\d+): ([0-9a-f]{16}) +(\w+) (\w+) +(\w+) +(\w+) +(\w+) ?(\S*)")
