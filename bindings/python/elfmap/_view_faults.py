@@ -34,7 +34,7 @@ DOUBTFUL = "?"
 # So many faults of a file are looked for: fewer in a file of very many sections.
 MOST_FAULTS = 64
 _LEAST_FAULTS = 4
-_MOST_HEADERS = 1 << 20
+_MOST_HEADERS = 1 << 17
 # Names are left out of a copy one by one.
 _MOST_NAMES = 1 << 16
 _LOAD_OUT_OF_ORDER = 29

@@ -64,6 +64,17 @@ class Image(elfmap.File):
         name = self._at(it.name.start, min(it.name.len, LONGEST_NAME))
         return elfmap.Symbol(bytes(name), *elfmap._values(it)[1:])
 
+    def _section(self, index: int) -> elfmap.Section:
+        """A section with so much of its name; without one where the names are not there."""
+        fields = elfmap._values(self._filled(_declared.Section, "elfmap_section", index))
+        place = _declared.Extent()
+        self._call("elfmap_name", index, place, of=(self._numbers,))
+        name = bytes(self._at(place.start, min(place.len, LONGEST_NAME)))
+        section = elfmap.Section._make([*fields, name, None])
+        if section.sh_type in (SHT.NULL, SHT.NOBITS):
+            return section
+        return section._replace(content=self._at(section.sh_offset, section.sh_size))
+
     @property
     def counts(self) -> tuple[int, int]:
         """How many section headers and program headers there should be."""
@@ -130,6 +141,8 @@ class View:
         self.words = Words(self.data, MOST_LETTERS)
         self.image = Image(self.data)
         self.marks = Marks(self.words, self.faults)
+        # The names of sections, once they were asked for.
+        self._names: dict[int, str] = {}
 
     @property
     def size(self) -> int:
@@ -180,7 +193,10 @@ class View:
         """The name of a section, or its index where it has none."""
         if not 0 <= index < len(self.sections):
             return f"section {index}"
-        return printable(self.sections[index].name, MOST_LETTERS) or f"section {index}"
+        if index not in self._names:
+            name = printable(self.sections[index].name, MOST_LETTERS)
+            self._names[index] = name or f"section {index}"
+        return self._names[index]
 
     def section_of(self, word: str) -> Optional[int]:
         """The section of this name, or else of this index."""

@@ -10,7 +10,7 @@ from typing import Any
 
 VERSION = "elfmap-view/1"
 # So many sections of a segment are listed.
-MOST_SECTIONS = 1024
+MOST_SECTIONS = 256
 FIELDS_OF_SECTION = (
     "sh_type",
     "sh_flags",

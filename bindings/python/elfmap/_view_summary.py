@@ -23,6 +23,7 @@ _MOST_SECTIONS = 16
 _MOST_SEGMENTS = 8
 _MOST_LARGEST = 5
 _MOST_FINDINGS = 3
+_MOST_PLACES = 4
 _FIRST_BYTES = 64
 
 
@@ -38,8 +39,10 @@ def fault_lines(view: View, screen: Screen, most: int = 0) -> Iterator[str]:
             yield from screen.text(f"    likely cause: {words}", "    ")
         shown = others[:most] if most else others
         for it in shown:
-            places = "; ".join(place.words for place in found_at(view.words, rule, it.at, it.table))
-            yield from screen.text(f"    also at {it.at:#x}: {places}", "      ", "red")
+            places = found_at(view.words, rule, it.at, it.table)
+            more = f"; {len(places) - _MOST_PLACES} more" if len(places) > _MOST_PLACES else ""
+            words = "; ".join(place.words for place in places[:_MOST_PLACES]) + more
+            yield from screen.text(f"    also at {it.at:#x}: {words}", "      ", "red")
         if len(shown) < len(others):
             yield f"    … {len(others) - len(shown)} more of this rule: --all"
     if not view.faults.is_complete:

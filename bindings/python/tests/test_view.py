@@ -331,6 +331,20 @@ class BrokenTest(Case):
         rows = self.block("SECTIONS", "a.o", status=1)
         self.assertEqual([it.split()[-1] for it in rows[2:4]], [".text?", ".a?"])
 
+    def test_a_name_table_that_is_not_there(self):
+        """All sections are there, without their names."""
+        made = Made(text(), text(b".a"))
+        self.put(a__o=made.with_bytes(62, b"\x63"))
+        found = self.json("a.o", status=1)
+        (fault,) = found["verdict"]["faults"]
+        self.assertEqual((fault["name"], fault["offset"]), ("WRONG_NAME_TABLE_INDEX", 62))
+        self.assertEqual(found["header"]["marks"], {"e_shstrndx": "broken"})
+        self.assertEqual(found["sections_missing"], 0)
+        sizes = [it["sh_size"] for it in found["sections"]]
+        self.assertEqual(sizes[:3], [0, 0x33, 0x33])
+        for it in found["sections"][1:]:
+            self.assertEqual((it["name"], it["marks"]), ("", {"sh_name": "depends"}))
+
     def test_a_wrong_byte_order(self):
         """Nothing that is read in one order is without a mark."""
         self.put(a__o=Made(text()).with_bytes(5, b"\3"))
