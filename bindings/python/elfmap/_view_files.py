@@ -27,16 +27,17 @@ class Reader:
 
     def __init__(self) -> None:
         self._is_refused = False
-        self._is_lost = False
+        # How much could not be read.
+        self._losses = 0
 
     def status(self) -> int:
-        if self._is_lost:
+        if self._losses:
             return UNREADABLE
         return FOUND if self._is_refused else DONE
 
     def lose(self, path: bytes, reason: str) -> None:
         """Says that something can't be read, and why."""
-        self._is_lost = True
+        self._losses += 1
         complain(PROGRAM, one_line(path) + f": {reason}".encode("utf-8", "backslashreplace"))
 
     def views(self, path: bytes, is_named: bool = True) -> Iterator[View]:
@@ -63,12 +64,13 @@ class Reader:
         source = standard_input() if is_input else stack.enter_context(opened(path))
         leaves = Opener(Contents(), self.lose).leaves(path, source)
         stack.callback(leaves.close)
+        before = self._losses
         has_any = not is_named
         for it in leaves:
             if it.path == path and is_named or it.source[:4] == _MAGIC:
                 has_any = True
                 yield it
-        if not has_any and not self._is_lost:
+        if not has_any and self._losses == before:
             raise Unreadable("it has no ELF file")
 
     def below(self, paths: list[bytes]) -> Iterator[View]:

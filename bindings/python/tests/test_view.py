@@ -819,7 +819,10 @@ class EndTest(Case):
         status, _, err = self.ran("lib.a(none)")
         said = b"elfmap-view: lib.a(none): the archive has no such member\n"
         self.assertEqual((status, err), (3, said))
-        self.assertEqual(self.ran("text")[::2], (3, b"elfmap-view: text: it has no ELF file\n"))
+        said = b"elfmap-view: text: it has no ELF file\n"
+        self.assertEqual(self.ran("text")[::2], (3, said))
+        missing = b"elfmap-view: none: no such file or directory\n"
+        self.assertEqual(self.ran("none", "text")[::2], (3, missing + said))
 
     def test_names_of_any_bytes(self):
         """On a terminal none of them is obeyed."""
