@@ -28,7 +28,7 @@ from tests.made import (
     text,
 )  # noqa: F401
 
-COMMANDS = "explain", "gaps", "lint", "picture", "same"
+COMMANDS = "explain", "gaps", "lint", "picture", "same", "view"
 # It writes to a file alone.
 EVERY = *COMMANDS, "symbols"
 LINK = ["--base=0", "--page=1", "--entry=start", "-oout"]
@@ -91,6 +91,8 @@ class ClosedTest(Case):
             ("gaps", [], 2),
             ("picture", ["bad.o"], 1),
             ("picture", [], 2),
+            ("view", ["bad.o"], 1),
+            ("view", [], 2),
             ("symbols", [*LINK, "bad.o"], 1),
             ("symbols", [*LINK, "none"], 3),
             ("symbols", [], 2),
@@ -124,6 +126,7 @@ class ClosedTest(Case):
             ("explain", ["-", "bad.o"], closed),
             ("picture", ["-"], "standard input: it is closed\n"),
             ("lint", ["-"], f"-: {closed}"),
+            ("view", ["-"], f"-: {closed}"),
             ("lint", ["--files0-from=-"], "-: bad file descriptor\n"),
         ):
             with self.subTest(command=command, words=words):
@@ -178,6 +181,8 @@ class NamesTest(Case):
             yield "same", *words
         for words in ([bad], [missing], ["good.o", missing]):
             yield "picture", *words
+        for words in ([bad], [missing], ["--all", archive], ["--hex", missing, bad]):
+            yield "view", *words
         for words in ([bad], [missing], ["-o", missing + b"/out", "good.o"], [b"--" + missing]):
             yield "symbols", *LINK, *words
         for option in ("--base", "--entry", "--rules"):

@@ -818,6 +818,12 @@ class NamesTest(unittest.TestCase):
             # LLVM's is not in the header.
             self.assertEqual(known.get(f"sht_{name}".lower(), 0x6FFF4C03), number)
 
+    def test_segment_types_and_tags(self):
+        for prefix, names in (("PT_", _names.SEGMENT_TYPES), ("DT_", _names.DYNAMIC_TAGS)):
+            known = self.constants(prefix)
+            for number, name in names.items():
+                self.assertEqual(known.get(f"{prefix}{name}"), number, name)
+
     def test_relocation_types(self):
         known = self.constants("R_")
         aliases = re.findall(r"^#define\s+(R_PPC64_\w+)\s+(R_PPC_\w+)", ELF_H.read_text(), re.M)

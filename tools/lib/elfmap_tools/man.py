@@ -19,7 +19,7 @@ EXAMPLE = "    $ "
 LINK = re.compile(r"\[((?:`[^`]*`|[^\]`])*)\]\(([^)]*)\)")
 SEE_ALSO = (
     "readelf(1), ld(1), elf(5), elfmap-lint(1), elfmap-explain(1), elfmap-same(1), elfmap-gaps(1), "
-    "elfmap-picture(1), elfmap-symbols(1)"
+    "elfmap-picture(1), elfmap-symbols(1), elfmap-view(1)"
 )
 PAGES = """In the directory of the release: `docs/MANUAL.md` has these texts and the libraries,
 `docs/RULES.md` every rule by its number, what it means and what to do, `docs/RULE_FILES.md` the
