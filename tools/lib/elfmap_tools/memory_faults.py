@@ -5,8 +5,8 @@ be made, as far as the lines of a function show, as `rt fmt` lays them out,
 in a `From` of another out of memory (`impl From<AllocError> for Fault`), in the arm of a `match`
 for out of memory (`Err(Fault::OutOfMemory) => Err(ToolFault::OutOfMemory)`), in the arm `Err(_)` of
 a `match`, or the `else` of a `let`, on a growth, or on a call whose only fault is out of memory, as
-one that writes into a sink, in a function that is called from such places alone; and of a text that
-a buffer has room for, and that was not kept.
+one that writes into a sink, in a function that is called from such places alone; of a text that a
+buffer has room for, and that was not kept; and in the arm that is left after the one other fault.
 
 The size of a growth, which sizes.py judges, has to be a length in hand, a sum of such, or a
 constant of at most a MiB.
@@ -59,6 +59,9 @@ INTO_A_VECTOR = {
 OF_CRATE = "crates/elf_c_engines/"
 # The function that says so of a text that has room, but was not kept.
 NOT_KEPT = ("crates/elf_c_engines/src/said.rt", "unkept")
+# The function with an arm `Err(_)` after one for too long a file: the contract of what it calls has
+# no third fault but out of memory.
+LAST_OF_TWO = ("crates/elf_exec/src/exec_writing.rt", "exec_length")
 # A writer that does not fail.
 SINK = "&mut sink()"
 FAILED_WRITE = re.compile(r"\b(?:WriteFault|\w+::Write) \{|\w+::Io \{ ?written")
@@ -126,6 +129,8 @@ class Reading:
             return "From"
         if (self.function.path, self.function.name) == NOT_KEPT:
             return "text with room"
+        if (self.function.path, self.function.name) == LAST_OF_TWO:
+            return "last of two faults"
         for pattern, expression, is_else in self.branches(at):
             is_growth = last_call(expression) in self.memory_calls or SINK in expression
             if not is_else and all(WANT.search(it) for it in pattern.split("|")):
