@@ -1,6 +1,8 @@
 //! The calls of the engines, which take memory. What an `unsafe` block relies on is in the module
 //! above.
 
+use alloc::vec::Vec;
+
 use super::{
     elfmap_link, elfmap_map, elfmap_rewrite, elfmap_show, elfmap_table_verdicts, Bytes, Fault,
     Options, Outcome, NO_MEMORY,
