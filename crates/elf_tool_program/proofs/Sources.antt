@@ -5,14 +5,20 @@ use Rattle.std.proofs.Math.Seq.{get_or-append_seam}
 use Rattle.std.proofs.lemmas.Bool.{cases_lt}
 use Rattle.std.proofs.lemmas.List.{get_or_append_left}
 use Rattle.std.specs.Io.KnownBytes.{Appends}
-use Rattle.elf_image_outline.specs.declared.scanning.FileSizes.{FileSizes}
+use Rattle.std.proofs.lemmas.List.FromFn.{length-map-range_with_len}
+use Rattle.elf_field.specs.declared.ehdr.Ehdr.{Ehdr}
+use Rattle.elf_image_outline.specs.Image.{IsImage}
+use Rattle.elf_image_outline.specs.Outline.{OutlineValue, image_in}
 use Rattle.elf_image_rules.specs.Rows.{fault_of}
+use Rattle.elf_image_rules.specs.Tables.{program_header_count, section_header_count, sections, segments}
 use Rattle.elf_image_rules.specs.Rows.{Broken}
-use Rattle.elf_tool_check.specs.Check.{CheckSays, verdict_of}
+use Rattle.elf_tool_check.specs.Check.{CheckSays, file_sections, file_segments, verdict_of}
 use Rattle.elf_tool_program.specs.CheckSource.{IsCheckLine, IsScanned, SourceSays, line_of_scan}
 use Rattle.elf_tool_check.proofs.SaysOne.{one_check}
 use Rattle.elf_tool_check.specs.Engine.{IsCutAt, IsOneReport, Prints}
+use Rattle.elf_tool_check.specs.FileLines.{ok_line}
 use Rattle.elf_tool_check.specs.declared.calls.ToolFault.TheVariants.{Write}
+use Rattle.elf_tool_check.specs.declared.calls.Verdict.TheVariants.{Done}
 use Rattle.elf_tool_check.specs.declared.calls.Verdict.{Verdict}
 
 -- Of files that are opened one after the other.
@@ -34,27 +40,45 @@ bytes_more holds names inputs k input same before next j below = elim (cases_lt 
       (subst (λ (o : Option (List ℕ)). IfSome (holds (get_or names k [])) (λ bytes. o ≡ Some bytes)) (sym at) next)
 ]
 
--- What is printed of a source that was scanned is what `check` prints of its bytes, if the source has known bytes. The sizes are those of
--- the file, or the rule is the first that they break, so the line is the same. If the writer fails, the first bytes of that line are
--- written.
+-- What is printed of a source that was scanned is what `check` prints of its bytes, if the source has known bytes. The outline is an image
+-- with their contents, or the rule is the first that they break, so the line is the same. If the writer fails, the first bytes of that line
+-- are written.
 
-check_says : (b : List ℕ) (validated : Result FileSizes (Broken ℕ)) → IsScanned b validated →
+-- an image has as many sections and segments as its file says
+image_says : (b : List ℕ) (o : OutlineValue) → IsImage (image_in o b) b →
+    CheckSays b Done (ok_line o.len (length o.sections) (length o.segments))
+image_says b o image =
+    let records = image.stands.records in
+    let section_count : length o.sections ≡ section_header_count o.header (sections b o.header 0) =
+    ap length records.section_headers ∙
+    length-map-range_with_len (sections b o.header) 0 (section_header_count o.header (sections b o.header 0)) in
+    let segment_count : length o.segments ≡ program_header_count o.header (sections b o.header 0) =
+    ap length records.program_headers ∙
+    length-map-range_with_len (segments b o.header) 0 (program_header_count o.header (sections b o.header 0)) in
+    let same_sections : length o.sections ≡ file_sections b =
+    section_count ∙ ap (λ (h : Ehdr). section_header_count h (sections b h 0)) records.header in
+    let same_segments : length o.segments ≡ file_segments b =
+    segment_count ∙ ap (λ (h : Ehdr). program_header_count h (sections b h 0)) records.header in
+    let same_length : o.len ≡ length b = image.stands.len in
+    (image.clean, rw (same_length, same_sections, same_segments) refl)
+
+check_says : (b : List ℕ) (validated : Result OutlineValue (Broken ℕ)) → IsScanned b validated →
     CheckSays b (verdict_of (fault_of validated)) (line_of_scan validated)
-check_says b (Ok sizes) has = (has.clean, rw (has.len, has.sections, has.segments) refl)
+check_says b (Ok o) image = image_says b o image
 check_says b (Err broken) is = (is, refl, refl)
 
-is_line : (validated : Result FileSizes (Broken ℕ)) → IsCheckLine (verdict_of (fault_of validated)) (line_of_scan validated)
-is_line (Ok sizes) = (sizes.len, sizes.sections, sizes.segments, refl)
+is_line : (validated : Result OutlineValue (Broken ℕ)) → IsCheckLine (verdict_of (fault_of validated)) (line_of_scan validated)
+is_line (Ok o) = (o.len, length o.sections, length o.segments, refl)
 is_line (Err broken) = (refl, refl)
 
 -- the line of what was scanned, with its verdict
-source_says : (content : Option (List ℕ)) (validated : Result FileSizes (Broken ℕ)) →
+source_says : (content : Option (List ℕ)) (validated : Result OutlineValue (Broken ℕ)) →
     ((b : List ℕ) → content ≡ Some b → IsScanned b validated)
     → SourceSays content (verdict_of (fault_of validated)) (line_of_scan validated)
 source_says content validated scanned = (is_line validated, λ b same. check_says b validated (scanned b same))
 
 -- what is said when the line is out, and when only its first bytes are
-module _ (content old new : Option (List ℕ)) (validated : Result FileSizes (Broken ℕ)) (bytes : List ℕ)
+module _ (content old new : Option (List ℕ)) (validated : Result OutlineValue (Broken ℕ)) (bytes : List ℕ)
     (is : bytes ≡ line_of_scan validated)
     (scanned : (b : List ℕ) → content ≡ Some b → IsScanned b validated) where
   pub said_whole : (verdict : Verdict) → verdict ≡ verdict_of (fault_of validated) → Appends old new bytes →

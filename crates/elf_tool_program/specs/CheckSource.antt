@@ -1,8 +1,8 @@
 -- What `check_source` says of a source.
-use Rattle.std.specs.Prelude.{◌≡◌, ℕ, List, Option, None, Some, Result, Ok, Err}
+use Rattle.std.specs.Prelude.{◌≡◌, ℕ, List, length, Option, None, Some, Result, Ok, Err}
 use Rattle.std.specs.Io.KnownBytes.{Keeps}
-use Rattle.elf_image_outline.specs.Scanning.{HasSizes}
-use Rattle.elf_image_outline.specs.declared.scanning.FileSizes.{FileSizes}
+use Rattle.elf_image_outline.specs.Image.{IsImage}
+use Rattle.elf_image_outline.specs.Outline.{OutlineValue, image_in}
 use Rattle.elf_image_rules.specs.Rules.{IsFault}
 use Rattle.elf_image_rules.specs.Rows.{Broken}
 use Rattle.elf_tool_check.specs.Ending.{Call}
@@ -47,9 +47,9 @@ IsSourceChecked content after old new result = (after ≡ content) × IsSourceSa
 
 -- ---- what was scanned
 
--- the sizes of a file of these bytes, which breaks no rule, or the first rule that they break
-abbrev pub IsScanned : List ℕ → Result FileSizes (Broken ℕ) → Type 0
-IsScanned b (Ok sizes) = HasSizes b sizes
+-- an outline of the image that is represented by these bytes, or the first rule that they break
+abbrev pub IsScanned : List ℕ → Result OutlineValue (Broken ℕ) → Type 0
+IsScanned b (Ok outline) = IsImage (image_in outline b) b
 IsScanned b (Err broken) = IsFault b (Some (broken.rule, broken.at))
 
 -- why there is neither: a read failed, or an allocation failed
@@ -58,7 +58,7 @@ IsScanStopped (Read at) = Unit {0}
 IsScanStopped (Write written) = ⊥
 IsScanStopped OutOfMemory = Unit {0}
 
--- the line of the sizes, or of the rule
-abbrev pub line_of_scan : Result FileSizes (Broken ℕ) → List ℕ
-line_of_scan (Ok sizes) = ok_line sizes.len sizes.sections sizes.segments
+-- the line of an outline, or of the rule
+abbrev pub line_of_scan : Result OutlineValue (Broken ℕ) → List ℕ
+line_of_scan (Ok outline) = ok_line outline.len (length outline.sections) (length outline.segments)
 line_of_scan (Err broken) = refused_line broken.rule broken.at

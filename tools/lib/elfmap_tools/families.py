@@ -18,6 +18,7 @@ from .tree import write
 # line away.
 NOT_YET: list[tuple[str, tuple[str, ...], Standing]] = [
     ("hash_tables_over_tails", ("lint --tables", "explain"), Standing(0.2)),
+    ("sections_far_apart", ("check --seek",), Standing(0, 1)),
 ]
 STANDINGS = {(family, command): it for family, commands, it in NOT_YET for command in commands}
 # The greatest exponent of n, from the smaller files to the larger ones.
