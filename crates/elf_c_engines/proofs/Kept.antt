@@ -1,5 +1,5 @@
 -- What was written into a text that was empty is the text. If it was not kept, its length is known, and the text is longer than the buffer,
--- or empty. Either way a call of an engine is told it.
+-- or empty. Either way a call of an engine returns it.
 use Rattle.std.proofs.Common.{◌≡◌, ◌∙◌, ◌<◌, ◌-◌, ◌^◌, ℕ, List, [], ◌∷◌, Some, Result, Ok, Err, MatchResult, arith, inl, inr, length, refl}
 use Rattle.std.proofs.Common.{subst, sym}
 use Rattle.elf_tool_check.specs.Engine.{HasLength, IsMeasured, Prints}
@@ -9,7 +9,7 @@ use Rattle.elf_c_engines.specs.declared.calls.CallFault.{CallFault}
 use Rattle.elf_c_engines.specs.declared.calls.CallFault.TheVariants.{OutOfMemory}
 use Rattle.elf_c_engines.specs.declared.calls.Outcome.{Outcome}
 use Rattle.elf_c_engines.specs.declared.said.Said.{Said}
-use Rattle.elf_c_engines.specs.Calls.{IsAnswered, IsEngineCall, IsSaid, IsUnkept, IsTold}
+use Rattle.elf_c_engines.specs.Calls.{IsAnswered, IsEngineCall, IsSaid, IsUnkept, IsPutOrTooSmall}
 
 -- ---- all of it is kept
 
@@ -26,7 +26,7 @@ said_text Says old new verdict empty (text, says, all) = rw (all, empty) says
 pub shown_text : (b old new : List ℕ) (verdict : Verdict) → old ≡ [] → IsShownOf b (Some old) (Some new) (Ok verdict) →
     ShowSays b verdict new
 shown_text b old new verdict empty (inl (never, kept)) = absurd cc
-shown_text b old new verdict empty (inr told) = rw (told.written, empty, told.answer) told.is
+shown_text b old new verdict empty (inr returned) = rw (returned.written, empty, returned.answer) returned.is
 
 -- ---- nothing is
 
@@ -47,18 +47,18 @@ unkept Says verdict n most said text says long is =
 
 module _ (Fails : CallFault → Type 0) (Says : Verdict → List ℕ → Type 0) (verdict : Verdict) (n most : ℕ)
     (refused : Fails OutOfMemory) where
-  told : (result : Result Said CallFault) (text : List ℕ) → Says verdict text → (n < 2 ^ 64 - 1 → n ≡ length text) →
+  returned : (result : Result Said CallFault) (text : List ℕ) → Says verdict text → (n < 2 ^ 64 - 1 → n ≡ length text) →
       MatchResult result (IsUnkept verdict n most) (λ fault. fault ≡ OutOfMemory) → MatchResult result (IsSaid Says most) Fails
-  told (Ok said) text says long is = unkept Says verdict n most said text says (long is.exact) is
-  told (Err fault) text says long is = subst Fails (sym is) refused
+  returned (Ok said) text says long is = unkept Says verdict n most said text says (long is.exact) is
+  returned (Err fault) text says long is = subst Fails (sym is) refused
 
-  pub exact_told : (result : Result Said CallFault) → HasLength Says (verdict, n) →
+  pub exact_returned : (result : Result Said CallFault) → HasLength Says (verdict, n) →
       MatchResult result (IsUnkept verdict n most) (λ fault. fault ≡ OutOfMemory) → MatchResult result (IsSaid Says most) Fails
-  exact_told result (text, says, long) is = told result text says (λ short. long) is
+  exact_returned result (text, says, long) is = returned result text says (λ short. long) is
 
-  pub measured_told : (result : Result Said CallFault) → IsMeasured Says (verdict, n) →
+  pub measured_returned : (result : Result Said CallFault) → IsMeasured Says (verdict, n) →
       MatchResult result (IsUnkept verdict n most) (λ fault. fault ≡ OutOfMemory) → MatchResult result (IsSaid Says most) Fails
-  measured_told result (text, says, long) is = told result text says (λ short. omega arith) is
+  measured_returned result (text, says, long) is = returned result text says (λ short. omega arith) is
 
 -- ---- said of other words
 
@@ -77,5 +77,5 @@ pub called : (Says : Verdict → List ℕ → Type 0) (Fails : CallFault → Typ
 called Says Fails most old new outcome status (Ok said) room (text, says, long, kept) (inl (short, same, code, numbers)) =
     inl (said.verdict, text, says, inr (record { short = omega arith; room = same; status = code; numbers = rw long at numbers }))
 called Says Fails most old new outcome status (Ok said) room (text, says, long, kept) (inr (fits, into)) =
-    inl (said.verdict, text, says, subst (λ (t : List ℕ). IsTold said.verdict t old new outcome status) (kept (omega arith)) into)
+    inl (said.verdict, text, says, subst (λ (t : List ℕ). IsPutOrTooSmall said.verdict t old new outcome status) (kept (omega arith)) into)
 called Says Fails most old new outcome status (Err fault) room failed answered = inr (fault, failed, answered)

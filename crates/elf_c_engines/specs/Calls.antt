@@ -106,8 +106,9 @@ pub record IsTooSmallFor (text old new : List ℕ) (outcome : Outcome) (code : �
   pub numbers : outcome ≡ length_alone (length text)
 
 -- the output of an engine is returned to a caller whose buffer held `old` and holds `new`
-abbrev pub IsTold : Verdict → List ℕ → List ℕ → List ℕ → Outcome → ℕ → Type 0
-IsTold verdict text old new outcome status = IsPutInto verdict text old new outcome status ⊎ IsTooSmallFor text old new outcome status
+abbrev pub IsPutOrTooSmall : Verdict → List ℕ → List ℕ → List ℕ → Outcome → ℕ → Type 0
+IsPutOrTooSmall verdict text old new outcome status =
+    IsPutInto verdict text old new outcome status ⊎ IsTooSmallFor text old new outcome status
 
 -- a call ends without output, and the buffer is unchanged
 pub record IsWithoutAnswer (fault : CallFault) (old new : List ℕ) (outcome : Outcome) (code : ℕ) : Type 0 where
@@ -118,7 +119,7 @@ pub record IsWithoutAnswer (fault : CallFault) (old new : List ℕ) (outcome : O
 -- a call of an engine: it returns a verdict and a text of the engine, or no output, for a fault that can come
 abbrev pub IsEngineCall : (Verdict → List ℕ → Type 0) → (CallFault → Type 0) → List ℕ → List ℕ → Outcome → ℕ → Type 0
 IsEngineCall Says Fails old new outcome status =
-    ((verdict : Verdict) × (text : List ℕ) × Says verdict text × IsTold verdict text old new outcome status)
+    ((verdict : Verdict) × (text : List ℕ) × Says verdict text × IsPutOrTooSmall verdict text old new outcome status)
     ⊎ ((fault : CallFault) × Fails fault × IsWithoutAnswer fault old new outcome status)
 
 -- What an engine says whose text is kept only if it has room in the buffer.
@@ -141,7 +142,7 @@ pub record IsUnkept (verdict : Verdict) (n most : ℕ) (said : Said) : Type 0 wh
 abbrev pub IsToldSaid : Said → List ℕ → List ℕ → Outcome → ℕ → Type 0
 IsToldSaid said old new outcome status =
     ((length old < said.length) × (new ≡ old) × (status ≡ small_room_status) × (outcome ≡ length_alone said.length))
-    ⊎ ((said.length ≤ length old) × IsTold said.verdict said.text.items old new outcome status)
+    ⊎ ((said.length ≤ length old) × IsPutOrTooSmall said.verdict said.text.items old new outcome status)
 
 -- or why nothing is said
 abbrev pub IsAnswered : Result Said CallFault → List ℕ → List ℕ → Outcome → ℕ → Type 0

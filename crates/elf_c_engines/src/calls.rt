@@ -1,6 +1,6 @@
 //! What the calls of the library for C have in common: the relocation rules that they are given, and what they return.
 ghost use Rattle.std.specs.Prelude.{◌≡◌, ◌≤◌, ◌++◌, drop, length, MatchResult};
-ghost use Rattle.elf_c_engines.specs.Calls.{IsTold, LacksRules, fault_numbers, fault_status};
+ghost use Rattle.elf_c_engines.specs.Calls.{IsPutOrTooSmall, LacksRules, fault_numbers, fault_status};
 ghost use Rattle.elf_c_engines.specs.Calls.{length_alone, small_room_status, verdict_numbers, verdict_status};
 ghost use Rattle.elf_tool_rule_file.specs.RuleFile.{AreRules};
 
@@ -12,7 +12,7 @@ use std::alloc::Global;
 // How a call ends: with the output of an engine in the caller's buffer, or without output.
 
 /// The statuses, by the names that C has: `ELFMAP_DONE` and so on.
-const DONE: u32 = 0;
+pub(crate) const DONE: u32 = 0;
 
 const REFUSED: u32 = 1;
 
@@ -22,7 +22,7 @@ const TOO_LONG: u32 = 3;
 
 const SMALL_ROOM: u32 = 4;
 
-const NO_MEMORY: u32 = 5;
+pub(crate) const NO_MEMORY: u32 = 5;
 
 const BAD_RULES: u32 = 6;
 
@@ -53,8 +53,8 @@ pub(crate) enum CallFault {
 }
 
 /// Copies the output of an engine into the buffer, if the buffer is long enough. Otherwise the buffer is unchanged. Returns the status.
-pub(crate) fn tell(verdict: Verdict, text: &[u8], room: &mut [u8], outcome: &mut Outcome) -> u32
-    ensures { IsTold verdict text.now room.old room.new outcome.new result }
+pub(crate) fn put_text(verdict: Verdict, text: &[u8], room: &mut [u8], outcome: &mut Outcome) -> u32
+    ensures { IsPutOrTooSmall verdict text.now room.old room.new outcome.new result }
 {
     if text.len() > room.len() {
         return small_room(text.len() as u64, outcome);

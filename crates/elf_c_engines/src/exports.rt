@@ -1,21 +1,21 @@
 //! The calls of the library for C that run a command on files in memory.
 ghost use Rattle.std.specs.Prelude.{MatchResult, map, option_copied};
 ghost use Rattle.elf_tool_rewrite.specs.Rewrite.{RewriteSays};
-ghost use Rattle.elf_tool_show.specs.Show.{RefusedTablesSay, ShowSays};
+ghost use Rattle.elf_tool_show.specs.Show.{ShowSays};
 ghost use Rattle.elf_c_engines.specs.Calls.{IsEngineCall, IsSaid, IsWantOfMemory, AreLinkOptions, LacksRules, LinkCallSays, MapCallFails};
 ghost use Rattle.elf_c_engines.specs.Calls.{MapCallSays, map_options};
 ghost use Rattle.elf_tool_link.specs.Link.{FilesLink};
 ghost use Rattle.elf_tool_link.specs.Map.{MapSays};
 ghost use Rattle.elf_link_files.specs.declared.fault.Options.{Options as AnOptions};
 
-use crate::calls::{CallFault, Outcome, give_up, rules_in, small_room, tell};
+use crate::calls::{CallFault, Outcome, give_up, put_text, rules_in, small_room};
 use crate::said::{Bounded, Said, answer};
 use elf_link_field::RelocRule;
 use elf_link_map::Options;
 use elf_tool_check::ToolFault;
 use elf_tool_link::{link_files, link_length, map_files, map_length};
 use elf_tool_rewrite::rewrite_within;
-use elf_tool_show::{push_refused_tables, show_bytes, show_length};
+use elf_tool_show::{show_bytes, show_length};
 use std::alloc::Global;
 
 // What a file holds, and its object in canonical layout.
@@ -53,23 +53,6 @@ fn show_within(alloc: Global, bytes: &[u8], most: usize) -> Result<Said, CallFau
     }
 }
 
-/// The lines `refused I R A` that `elfmap show` writes of a file of these bytes: those of the tables that break a rule.
-#[unsafe(no_mangle)]
-pub extern "C" fn elfmap_refused_tables(
-    alloc: Global,
-    bytes: &[u8],
-    room: &mut [u8],
-    outcome: &mut Outcome,
-) -> u32
-    ensures { IsEngineCall (RefusedTablesSay bytes.now) IsWantOfMemory room.old room.new outcome.new result }
-{
-    let mut text = Vec::new(alloc);
-    match push_refused_tables(alloc, bytes, &mut text) {
-        Ok(verdict) => tell(verdict, text.as_slice(), room, outcome),
-        Err(_) => give_up(CallFault::OutOfMemory, outcome),
-    }
-}
-
 /// What `elfmap rewrite` writes of a file of these bytes.
 #[unsafe(no_mangle)]
 pub extern "C" fn elfmap_rewrite(
@@ -84,7 +67,7 @@ pub extern "C" fn elfmap_rewrite(
     let mut file = Vec::new(alloc);
     match rewrite_within(alloc, bytes, most, &mut file) {
         Ok((_, length)) if length > most => small_room(length, outcome),
-        Ok((verdict, _)) => tell(verdict, file.as_slice(), room, outcome),
+        Ok((verdict, _)) => put_text(verdict, file.as_slice(), room, outcome),
         Err(_) => give_up(CallFault::OutOfMemory, outcome),
     }
 }

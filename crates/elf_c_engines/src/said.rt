@@ -3,7 +3,7 @@ ghost use Rattle.std.specs.Prelude.{◌≡◌, [], MatchResult, length};
 ghost use Rattle.elf_c_engines.specs.Calls.{IsAnswered, IsToldSaid, IsUnkept};
 ghost use Rattle.elf_c_engines.specs.declared.calls.CallFault.TheVariants.{OutOfMemory};
 
-use crate::calls::{CallFault, Outcome, give_up, small_room, tell};
+use crate::calls::{CallFault, Outcome, give_up, put_text, small_room};
 use elf_tool_check::Verdict;
 use std::alloc::Global;
 use std::io::{self, ErrorKind, Write};
@@ -107,5 +107,5 @@ fn tell_kept(said: &Said, room: &mut [u8], outcome: &mut Outcome) -> u32
     if said.length > room.len() as u64 {
         return small_room(said.length, outcome);
     }
-    tell(said.verdict, said.text.as_slice(), room, outcome)
+    put_text(said.verdict, said.text.as_slice(), room, outcome)
 }

@@ -12,7 +12,7 @@ use Rattle.std.proofs.lemmas.Nat.{pow_pos}
 use Rattle.elf_link_relocate.proofs.Public.{load_some, load_stands, loads_ascend, memory_bytes}
 use Rattle.elf_link_relocate.specs.Loads.{file_size, no_load, load_in, loads}
 use Rattle.elf_exec.specs.Executable.{exec_header, load_part, program_header, program_headers, bytes_from, exec_bytes, header_bytes}
-use Rattle.elf_exec.specs.Executable.{load_parts, table_bytes, IsExecFile, IsSoundLink}
+use Rattle.elf_exec.specs.Executable.{load_parts, table_bytes, ExecFits, IsSoundLink}
 use Rattle.elf_link_relocate.specs.declared.load.Load.{Load}
 use Rattle.elf_extent.proofs.Public.{fits_length}
 use Rattle.elf_extent.specs.Place.{Fits, alignment}
@@ -40,7 +40,7 @@ use Rattle.elf_link_field.specs.declared.rule.RelocRule.{RelocRule}
 use Rattle.elf_link_files.specs.Files.{no_object, object_at}
 use Rattle.elf_link_map.proofs.Public.{are_paged, outputs_stand, parts_apart}
 use Rattle.elf_link_map.specs.LinkMap.{LinkMapValue}
-use Rattle.elf_link_map.specs.Standing.{ObjectsFit, ArePaged, OutputsStand, StandApart}
+use Rattle.elf_link_map.specs.Standing.{ObjectsFit, ArePaged, OutputsStand, ArePlacedApart}
 use Rattle.elf_link_relocate.specs.Fields.{content_of}
 use Rattle.elf_link_relocate.specs.Linked.{identity_of, HaveBytes}
 use Rattle.elf_link_relocate.specs.declared.linked.Identity.{Identity}
@@ -246,10 +246,10 @@ size_with_bits true size with_bits = absurd (let never : true ≡ false = with_b
 size_with_bits false size with_bits = refl
 
 module _ (fs : List ObjectValue) (m : LinkMapValue) (rules : List RelocRule) (link : IsSoundLink fs m rules) (b : List ℕ)
-    (file : IsExecFile fs m rules b) where
+    (file : ExecFits fs m rules b) where
   -- ---- what the link gives
 
-  pub stand : StandApart fs m
+  pub stand : ArePlacedApart fs m
   stand = parts_apart link.map.0 fs m link.map.1
 
   pub outputs : OutputsStand fs m

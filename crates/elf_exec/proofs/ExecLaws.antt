@@ -12,11 +12,11 @@ use Rattle.elf_exec.proofs.ExecFile.{exec_is_bytes, exec_read}
 use Rattle.elf_exec.proofs.ExecText.{exec_laid, length-exec, sent_text, text_is}
 use Rattle.elf_link_relocate.proofs.Public.{load_of, load_there, at_commons, at_output, commons_ascend, commons_end, commons_some}
 use Rattle.elf_link_relocate.proofs.Public.{any_options, field_in_content, memory_in, memory_zero, one_byte, some_byte}
-use Rattle.elf_exec.specs.ExecWriting.{HasExecOf, IsExec, exec_end, load_contents, IsLoadable, WritesExec, exec_text, IsPlacedExec}
+use Rattle.elf_exec.specs.ExecWriting.{HasExecOf, exec_end, load_contents, IsLoadable, WritesExec, exec_text, IsPlacedExec}
 use Rattle.elf_exec.specs.ExecWriting.{PlacedExecValue}
 use Rattle.elf_link_relocate.specs.Loads.{load_at, load_in, loads}
-use Rattle.elf_exec.specs.Executable.{program_headers, IsExecFile, IsSoundLink, AreLoadBytes, ExecLaid, bytes_from, exec_bytes, load_parts}
-use Rattle.elf_exec.specs.Executable.{IsExecutable}
+use Rattle.elf_exec.specs.Executable.{program_headers, ExecFits, IsSoundLink, AreLoadBytes, ExecLaid, bytes_from, exec_bytes, load_parts}
+use Rattle.elf_exec.specs.Executable.{LoadsLink}
 use Rattle.elf_link_relocate.specs.declared.load.Load.{Load}
 use Rattle.elf_extent.proofs.Public.{least_places, same_least}
 use Rattle.elf_field.specs.declared.ehdr.Ehdr.{Ehdr}
@@ -29,13 +29,13 @@ use Rattle.elf_image_type.proofs.Public.{some_image}
 use Rattle.elf_image_type.specs.ImageView.{HasAddress, Loads, LoadsFirst, loaded}
 use Rattle.elf_link_field.specs.declared.rule.RelocRule.{RelocRule}
 use Rattle.elf_link_files.specs.Files.{section_in}
-use Rattle.elf_link_files.specs.Rows.{FirstAmong}
+use Rattle.elf_link_files.specs.Rows.{FirstAt}
 use Rattle.elf_link_map.specs.LinkMap.{LinkMapValue}
 use Rattle.elf_link_map.specs.Standing.{AreObjects, ObjectsFit, member_at, output_at}
 use Rattle.elf_link_outputs.specs.Outputs.{is_no_bits, memory_size}
 use Rattle.elf_link_outputs.specs.Placed.{common_at}
 use Rattle.elf_link_relocate.specs.Fields.{content_of, applied_entry_rules}
-use Rattle.elf_link_relocate.specs.Linked.{HasContentAt, IsInMemory, IsInOutputAt, IsMemory, LinkedValue, IsMapOfSome, IsReadyLink}
+use Rattle.elf_link_relocate.specs.Linked.{HasContentAt, IsInMemory, IsInOutputAt, IsMemory, LinkedValue, IsSoundMap, IsSoundLinked}
 use Rattle.elf_object_type.specs.Object.{BodyValue, ObjectValue, bits, group, no_bits, relocs}
 
 -- The segments of an executable give an address a byte exactly if memory has that byte there. A segment gives memory's bytes, or zeros
@@ -76,7 +76,7 @@ either true = inl refl
 either false = inr refl
 
 module _ (fs : List ObjectValue) (m : LinkMapValue) (rules : List RelocRule) (link : IsSoundLink fs m rules) (b : List ℕ)
-    (file : IsExecFile fs m rules b) where
+    (file : ExecFits fs m rules b) where
   abbrev count : ℕ
   count = length (loads m)
 
@@ -101,7 +101,7 @@ module _ (fs : List ObjectValue) (m : LinkMapValue) (rules : List RelocRule) (li
   -- contents are before the commons
   no_content_after : (x : ℕ) → 0 < length m.commons → (common_at m.commons 0).address ≤ x → HasContentAt fs m x → ⊥
   no_content_after x some after (f, s, k, (k_in, (a, there, at))) =
-      let before = (stand fs m rules link b file).commons_behind f s a 0 there some in
+      let before = (stand fs m rules link b file).commons_after f s a 0 there some in
       let fits = content_fits (section_in fs f s).body in
       omega arith
 
@@ -204,15 +204,15 @@ found_memory b gs x (Some w) M both (j, (lt, has, before), is) = (both w).0 (j, 
 -- Relocated bytes have an executable, at the least places. Two executables of one link that keeps the rules are equal. Least places are one
 -- list, and each byte of a segment is that of memory, which has one there (`one_byte`).
 
-pub some_exec : (l : LinkedValue) → IsReadyLink l → (b : List ℕ) × IsExec l b
+pub some_exec : (l : LinkedValue) → IsSoundLinked l → (b : List ℕ) × ExecLaid l.objects l.map l.rules b
 some_exec l ready =
     let (places, least) = least_places (load_parts l.map) (bytes_from l.map) in
     (exec_bytes l.objects l.map places (load_contents l), exec_laid l places ready least)
 
 -- ---- one and no other
 
-module _ (fs : List ObjectValue) (m : LinkMapValue) (rules : List RelocRule) (is : IsMapOfSome fs m)
-    (sound : FirstAmong (applied_entry_rules fs m rules) None) where
+module _ (fs : List ObjectValue) (m : LinkMapValue) (rules : List RelocRule) (is : IsSoundMap fs m)
+    (sound : FirstAt (applied_entry_rules fs m rules) None) where
   -- the bytes of a segment are one list
   same_bytes : (load : Load) (s t : List ℕ) → AreLoadBytes fs m rules load s → AreLoadBytes fs m rules load t → s ≡ t
   same_bytes load s t are also =
@@ -232,14 +232,14 @@ module _ (fs : List ObjectValue) (m : LinkMapValue) (rules : List RelocRule) (is
       (that.memory.each j (omega arith))) in
       this.bytes ∙ ap₂ (exec_bytes fs m) places contents ∙ sym that.bytes
 
-pub one_exec : (fs : List ObjectValue) (m : LinkMapValue) (rules : List RelocRule) (a b : List ℕ) → IsMapOfSome fs m →
-    FirstAmong (applied_entry_rules fs m rules) None →
+pub one_exec : (fs : List ObjectValue) (m : LinkMapValue) (rules : List RelocRule) (a b : List ℕ) → IsSoundMap fs m →
+    FirstAt (applied_entry_rules fs m rules) None →
     ExecLaid fs m rules a → ExecLaid fs m rules b → a ≡ b
 one_exec fs m rules a b is sound = same_exec fs m rules is sound a b
 
 pub executable : (fs : List ObjectValue) (m : LinkMapValue) (rules : List RelocRule) (b : List ℕ) → IsSoundLink fs m rules →
-    IsExecFile fs m rules b →
-    IsExecutable fs m rules b
+    ExecFits fs m rules b →
+    LoadsLink fs m rules b
 executable fs m rules b link file = record {
   accepted = exec_accepted fs m rules link b file;
   image = some_image b (exec_is_bytes fs m rules link b file) (exec_accepted fs m rules link b file);
@@ -263,7 +263,7 @@ executable fs m rules b link file = record {
 abbrev pub HasSoundLink : LinkedValue → Type 0
 HasSoundLink l = IsSoundLink l.objects l.map l.rules
 
-pub sound_link : (l : LinkedValue) → IsReadyLink l → AreObjects l.objects → ObjectsFit l.objects → l.map.page < 2 ^ 64 → HasSoundLink l
+pub sound_link : (l : LinkedValue) → IsSoundLinked l → AreObjects l.objects → ObjectsFit l.objects → l.map.page < 2 ^ 64 → HasSoundLink l
 sound_link l ready kept fit page = record { objects = kept; widths = fit; map = ready.map; page = page; relocated = ready.linked.sound }
 
 module _ (p : PlacedExecValue) (placed : IsPlacedExec p) (link : IsSoundLink p.linked.objects p.linked.map p.linked.rules) where
@@ -272,7 +272,7 @@ module _ (p : PlacedExecValue) (placed : IsPlacedExec p) (link : IsSoundLink p.l
       let l = p.linked in
       let long = length-exec l p.places placed.ready placed.least in
       let short = placed.short in
-      let file : IsExecFile l.objects l.map l.rules (exec_text p) = record {
+      let file : ExecFits l.objects l.map l.rules (exec_text p) = record {
         laid = exec_laid l p.places placed.ready placed.least;
         few = placed.few;
         short = omega arith;

@@ -9,14 +9,14 @@ use Rattle.std.proofs.lemmas.List.{get_or-append_right, get_or-replicate, get_or
 use Rattle.std.specs.Prelude.{MatchOption, Option, None, Some, unwrap_or, IfErr}
 use Rattle.std.proofs.lemmas.Simd.{map-map}
 use Rattle.elf_link_relocate.proofs.Public.{load_of, any_options, memory_zero}
-use Rattle.elf_exec.specs.ExecWriting.{EndTooFar, file_end, piece, member_content, output_content, IsExec, IsTooLong, exec_text}
+use Rattle.elf_exec.specs.ExecWriting.{EndTooFar, file_end, piece, member_content, output_content, IsTooLong, exec_text}
 use Rattle.elf_exec.specs.ExecWriting.{load_content, load_contents, loads_text, placed_header, placed_table, IsPlacedExec, PlacedExecValue}
-use Rattle.elf_exec.specs.ExecWriting.{exec_end, member_piece, IsPartsFault, IsPlacingFault}
+use Rattle.elf_exec.specs.ExecWriting.{IsExecFault, IsPartsFault, IsPlacingFault, exec_end, exec_fault, member_piece}
 use Rattle.elf_link_relocate.specs.Loads.{file_size, commons_load, load_in, loads, no_load, output_load, EndInTime}
-use Rattle.elf_exec.specs.Executable.{AreLoadBytes, bytes_from, exec_bytes, exec_header, header_bytes, load_part, load_parts}
+use Rattle.elf_exec.specs.Executable.{AreLoadBytes, ExecLaid, bytes_from, exec_bytes, exec_header, header_bytes, load_part, load_parts}
 use Rattle.elf_exec.specs.Executable.{program_header, program_headers, table_bytes}
-use Rattle.elf_exec.specs.declared.exec_writing.ExecFault.TheVariants.{TooLong, OutOfMemory, Io}
-use Rattle.elf_exec.specs.declared.exec_writing.ExecFault.{ExecFault}
+use Rattle.elf_exec.specs.declared.placed_exec.PlacingFault.TheVariants.{TooLong, OutOfMemory}
+use Rattle.elf_exec.specs.declared.placed_exec.PlacingFault.{PlacingFault}
 use Rattle.elf_link_relocate.specs.declared.load.Load.{Load}
 use Rattle.elf_extent.proofs.Public.{above_earlier, above_from, fits_length}
 use Rattle.elf_extent.specs.Place.{Fits, IsOverflowAt, end_of, Least}
@@ -39,7 +39,8 @@ use Rattle.elf_link_outputs.specs.Outputs.{is_no_bits, memory_size}
 use Rattle.elf_link_outputs.specs.Placed.{OutputValue}
 use Rattle.elf_link_outputs.specs.declared.placing.Member.{Member}
 use Rattle.elf_link_relocate.specs.Fields.{content_of}
-use Rattle.elf_link_relocate.specs.Linked.{AreBytesOf, HasLiveBits, LinkedValue, bytes_at, IsInNoMember, IsMemory, IsReadyLink, identity_of}
+use Rattle.elf_link_relocate.specs.Linked.{AreBytesOf, HasLiveBits, LinkedValue, bytes_at, IsInNoMember}
+use Rattle.elf_link_relocate.specs.Linked.{IsMemory, IsSoundLinked, identity_of}
 use Rattle.elf_object_type.specs.Object.{BodyValue, bits, no_bits, relocs, group, ObjectValue, is_bits}
 
 -- The end of the file is the end of its last part: places ascend, so no part ends after it. A part whose end does not fit 64 bits
@@ -236,7 +237,7 @@ copy_of : (fs : List ObjectValue) (m : LinkMapValue) (rules : List RelocRule) (f
 copy_of fs m rules f s None none has = absurd (none has)
 copy_of fs m rules f s (Some bytes) are has = are
 
-module _ (l : LinkedValue) (ready : IsReadyLink l) (k : ℕ) (k_in : k < length l.map.outputs)
+module _ (l : LinkedValue) (ready : IsSoundLinked l) (k : ℕ) (k_in : k < length l.map.outputs)
     (with : (output_at l.map k).no_bits ≡ false) where
   abbrev fs : List ObjectValue
   fs = l.objects
@@ -349,7 +350,7 @@ none_right l load without =
       memory = λ k lt. absurd (omega arith);
     })
 
-output_right : (l : LinkedValue) (k : ℕ) → IsReadyLink l → k < length l.map.outputs → (output_at l.map k).no_bits ≡ false →
+output_right : (l : LinkedValue) (k : ℕ) → IsSoundLinked l → k < length l.map.outputs → (output_at l.map k).no_bits ≡ false →
     AreLoadBytes l.objects l.map l.rules (output_load k (output_at l.map k)) (load_content l (output_load k (output_at l.map k)))
 output_right l k ready lt with =
     let load = output_load k (output_at l.map k) in
@@ -360,7 +361,7 @@ output_right l k ready lt with =
       memory = output_memory l ready k lt with;
     })
 
-pub content_right : (l : LinkedValue) (j : ℕ) → IsReadyLink l → j < length (loads l.map) →
+pub content_right : (l : LinkedValue) (j : ℕ) → IsSoundLinked l → j < length (loads l.map) →
     AreLoadBytes l.objects l.map l.rules (load_in l.map j) (load_content l (load_in l.map j))
 content_right l j ready lt =
     let P : Load → Type 0 = λ load. AreLoadBytes l.objects l.map l.rules load (load_content l load) in
@@ -378,7 +379,7 @@ content_at l j lt = get_or-map (load_content l) (loads l.map) j no_load [] lt
 length-contents : (l : LinkedValue) → length (load_contents l) ≡ length (loads l.map)
 length-contents l = length-map (loads l.map) (load_content l)
 
-contents_right : (l : LinkedValue) → IsReadyLink l →
+contents_right : (l : LinkedValue) → IsSoundLinked l →
     AreEach [] (λ j. AreLoadBytes l.objects l.map l.rules (load_in l.map j)) (length (loads l.map)) (load_contents l)
 contents_right l ready = record {
   count = length-contents l;
@@ -386,8 +387,8 @@ contents_right l ready = record {
 }
 
 -- relocated bytes have an executable at these places
-pub exec_laid : (l : LinkedValue) (places : List ℕ) → IsReadyLink l → Least (load_parts l.map) (bytes_from l.map) places →
-    IsExec l (exec_bytes l.objects l.map places (load_contents l))
+pub exec_laid : (l : LinkedValue) (places : List ℕ) → IsSoundLinked l → Least (load_parts l.map) (bytes_from l.map) places →
+    ExecLaid l.objects l.map l.rules (exec_bytes l.objects l.map places (load_contents l))
 exec_laid l places ready least = record {
   places = places;
   contents = load_contents l;
@@ -424,7 +425,7 @@ loose (p ∷ ps) (c ∷ cs) from (x ∷ q) (multiple, above, rest) many sizes =
       loose ps cs (x + length c) q (subst (λ (n : ℕ). Fits ps (x + n) q) size rest) (omega arith) (λ i lt. sizes (suc i) (omega arith)),
     )
 
-contents_fit : (l : LinkedValue) (places : List ℕ) → IsReadyLink l → Least (load_parts l.map) (bytes_from l.map) places →
+contents_fit : (l : LinkedValue) (places : List ℕ) → IsSoundLinked l → Least (load_parts l.map) (bytes_from l.map) places →
     Fits (map unaligned (load_contents l)) (bytes_from l.map) places
 contents_fit l places ready least =
     let parts = many_parts l.map in
@@ -486,7 +487,7 @@ last_end m places k last =
 pub no_end : (m : LinkMapValue) (places : List ℕ) → length (loads m) ≡ 0 → exec_end m places ≡ bytes_from m
 no_end m places none = (let parts = many_parts m in end_none (load_parts m) (bytes_from m) places (omega arith))
 
-after_length : (l : LinkedValue) (places : List ℕ) → IsReadyLink l → Least (load_parts l.map) (bytes_from l.map) places →
+after_length : (l : LinkedValue) (places : List ℕ) → IsSoundLinked l → Least (load_parts l.map) (bytes_from l.map) places →
     bytes_from l.map + length (spread (bytes_from l.map) places (load_contents l)) ≡ exec_end l.map places
 after_length l places ready least =
     let parts = many_parts l.map in
@@ -511,13 +512,13 @@ after_length l places ready least =
     no_parts from (x ∷ q) [] none = refl
     no_parts from q (c ∷ cs) none = absurd (omega arith)
 
-    last_size : (l : LinkedValue) → IsReadyLink l → (n : ℕ) → n < length (loads l.map) →
+    last_size : (l : LinkedValue) → IsSoundLinked l → (n : ℕ) → n < length (loads l.map) →
         get_or (map (λ (p : ℕ × ℕ). p.0) (load_parts l.map)) n 0 ≡ length (get_or (load_contents l) n [])
     last_size l ready n lt =
         get_or-map (λ (p : ℕ × ℕ). p.0) (load_parts l.map) n (0, 0) 0 (let parts = many_parts l.map in omega arith)
         ∙ part_size l.map n lt ∙ sym (content_right l n ready lt).long ∙ ap (λ (s : List ℕ). length s) (sym (content_at l n lt))
 
-pub length-exec : (l : LinkedValue) (places : List ℕ) → IsReadyLink l → Least (load_parts l.map) (bytes_from l.map) places →
+pub length-exec : (l : LinkedValue) (places : List ℕ) → IsSoundLinked l → Least (load_parts l.map) (bytes_from l.map) places →
     length (exec_bytes l.objects l.map places (load_contents l)) ≡ exec_end l.map places
 length-exec l places ready least =
     let fs = l.objects in
@@ -567,7 +568,7 @@ abbrev pub sent_text : PlacedExecValue → List ℕ
 sent_text p = placed_header p ++ (placed_table p ++ loads_text p)
 
 -- parts that end too far make the executable too long
-pub too_long : (l : LinkedValue) → IsReadyLink l → EndTooFar (load_parts l.map) (bytes_from l.map) → IsTooLong l
+pub too_long : (l : LinkedValue) → IsSoundLinked l → EndTooFar (load_parts l.map) (bytes_from l.map) → IsTooLong l
 too_long l ready (places, least, far) =
     let long = length-exec l places ready least in
     inr (exec_bytes l.objects l.map places (load_contents l), exec_laid l places ready least, omega arith)
@@ -607,7 +608,7 @@ output_text l o =
 
 -- ---- where the segments are
 
-pub commons_end : (l : LinkedValue) → IsReadyLink l → EndInTime l.map.commons
+pub commons_end : (l : LinkedValue) → IsSoundLinked l → EndInTime l.map.commons
 commons_end l ready = (let (opt, is, sound) = ready.map in (parts_apart opt l.objects l.map is).commons_within)
 
 pub parts_are : (m : LinkMapValue) (page : ℕ) (ls : List Load) → page ≡ m.page → ls ≡ loads m → map (load_part page) ls ≡ load_parts m
@@ -617,13 +618,18 @@ parts_are m page ls paged are = ap (λ (n : ℕ). map (load_part n) ls) paged �
 pub from_is : (m : LinkMapValue) (ls : List Load) (n : ℕ) → ls ≡ loads m → n ≡ length ls → 64 + 56 * n ≡ bytes_from m
 from_is m ls n are count = (let long = ap (λ (xs : List Load). length xs) are in omega arith)
 
-placing_fault : (l : LinkedValue) (fault : ExecFault) → IsReadyLink l → IsPartsFault (load_parts l.map) (bytes_from l.map) fault →
+placing_fault : (l : LinkedValue) (fault : PlacingFault) → IsSoundLinked l → IsPartsFault (load_parts l.map) (bytes_from l.map) fault →
     IsPlacingFault l fault
 placing_fault l TooLong ready far = too_long l ready far
 placing_fault l OutOfMemory ready is = tt
-placing_fault l (Io written) ready never = never
 
-pub if_fault : {T : Type 0} (l : LinkedValue) (r : Result T ExecFault) → IsReadyLink l →
+pub if_fault : {T : Type 0} (l : LinkedValue) (r : Result T PlacingFault) → IsSoundLinked l →
     IfErr r (IsPartsFault (load_parts l.map) (bytes_from l.map)) → IfErr r (IsPlacingFault l)
 if_fault l (Ok x) ready is = is
 if_fault l (Err fault) ready is = placing_fault l fault ready is
+
+-- before the first byte is written, why there are no places is why the executable is not written
+pub unplaced : (l : LinkedValue) (held : Option (List ℕ)) (fault : PlacingFault) → IsPlacingFault l fault →
+    IsExecFault l held held (exec_fault fault)
+unplaced l held TooLong long = (refl, long)
+unplaced l held OutOfMemory is = refl

@@ -3,9 +3,11 @@ use Rattle.std.specs.Prelude.{◌≡◌, ◌<◌, ◌≤◌, ◌⊎◌, ℕ, Lis
 use Rattle.std.specs.Prelude.{suc, ◌+◌, [], ◌++◌, map, replicate, slice_index, unwrap_or}
 use Rattle.std.specs.List.{flat_map, range_with_len}
 use Rattle.elf_link_relocate.specs.Loads.{loads, file_size, load_in}
-use Rattle.elf_exec.specs.Executable.{ExecLaid, IsExecFile, IsExecutable, bytes_from, load_parts, exec_bytes, header_bytes, table_bytes}
+use Rattle.elf_exec.specs.Executable.{ExecLaid, ExecFits, LoadsLink, bytes_from, load_parts, exec_bytes, header_bytes, table_bytes}
 use Rattle.elf_exec.specs.declared.exec_writing.ExecFault.TheVariants.{TooLong, OutOfMemory, Io}
 use Rattle.elf_exec.specs.declared.exec_writing.ExecFault.{ExecFault}
+use Rattle.elf_exec.specs.declared.placed_exec.PlacingFault.TheVariants.{TooLong as TooLarge, OutOfMemory as NoRoom}
+use Rattle.elf_exec.specs.declared.placed_exec.PlacingFault.{PlacingFault}
 use Rattle.elf_link_relocate.specs.declared.load.Load.{Load}
 use Rattle.elf_extent.specs.Place.{Least, end_of}
 use Rattle.elf_field.specs.Abi.{PN_XNUM}
@@ -18,12 +20,8 @@ use Rattle.elf_link_map.specs.LinkMap.{LinkMapValue}
 use Rattle.elf_link_map.specs.Standing.{member_address, member_at, output_at}
 use Rattle.elf_link_outputs.specs.Placed.{OutputValue}
 use Rattle.elf_link_outputs.specs.declared.placing.Member.{Member}
-use Rattle.elf_link_relocate.specs.Linked.{LinkedValue, IsReadyLink, bytes_at}
+use Rattle.elf_link_relocate.specs.Linked.{LinkedValue, IsSoundLinked, bytes_at}
 use Rattle.elf_object_type.specs.Object.{ObjectValue}
-
--- b is the executable of relocated bytes
-abbrev pub IsExec : LinkedValue → List ℕ → Type 0
-IsExec l b = ExecLaid l.objects l.map l.rules b
 
 -- there are more segments than e_phnum can report (gABI chapter 5: PN_XNUM), or the executable is longer than the longest file
 abbrev pub IsTooLongFor : List ObjectValue → LinkMapValue → List RelocRule → Type 0
@@ -34,7 +32,7 @@ IsTooLong l = IsTooLongFor l.objects l.map l.rules
 
 -- b is the executable of relocated bytes, not too long, and as a file an image that loads the memory of the link
 abbrev pub IsLoadable : LinkedValue → List ℕ → Type 0
-IsLoadable l b = IsExecFile l.objects l.map l.rules b × IsExecutable l.objects l.map l.rules b
+IsLoadable l b = ExecFits l.objects l.map l.rules b × LoadsLink l.objects l.map l.rules b
 
 -- it is so long
 abbrev pub HasExecOf : LinkedValue → ℕ → Type 0
@@ -68,7 +66,7 @@ pub record PlacedExecValue : Type 0 where
 
 -- the segments are few enough, their bytes are at the least places, and the file is short enough
 pub record IsPlacedExec (p : PlacedExecValue) : Type 0 where
-  pub ready : IsReadyLink p.linked
+  pub ready : IsSoundLinked p.linked
   pub few : length (loads p.linked.map) < PN_XNUM
   pub least : Least (load_parts p.linked.map) (bytes_from p.linked.map) p.places
   pub short : exec_end p.linked.map p.places ≤ MAX_LEN
@@ -83,15 +81,18 @@ pub record HasLoads (ls : List Load) (p : PlacedExecValue) : Type 0 where
 abbrev pub EndTooFar : List (ℕ × ℕ) → ℕ → Type 0
 EndTooFar parts from = (places : List ℕ) × Least parts from places × (MAX_LEN < file_end parts from places)
 
-abbrev pub IsPartsFault : List (ℕ × ℕ) → ℕ → ExecFault → Type 0
-IsPartsFault parts from TooLong = EndTooFar parts from
-IsPartsFault parts from OutOfMemory = Unit {0}
-IsPartsFault parts from (Io written) = ⊥
+abbrev pub IsPartsFault : List (ℕ × ℕ) → ℕ → PlacingFault → Type 0
+IsPartsFault parts from TooLarge = EndTooFar parts from
+IsPartsFault parts from NoRoom = Unit {0}
 
-abbrev pub IsPlacingFault : LinkedValue → ExecFault → Type 0
-IsPlacingFault l TooLong = IsTooLong l
-IsPlacingFault l OutOfMemory = Unit {0}
-IsPlacingFault l (Io written) = ⊥
+abbrev pub IsPlacingFault : LinkedValue → PlacingFault → Type 0
+IsPlacingFault l TooLarge = IsTooLong l
+IsPlacingFault l NoRoom = Unit {0}
+
+-- that fault as the one of the public call
+abbrev pub exec_fault : PlacingFault → ExecFault
+exec_fault TooLarge = TooLong
+exec_fault NoRoom = OutOfMemory
 
 -- The executable in pieces, as it is written: what is at its place, with the zeros before it.
 

@@ -15,12 +15,12 @@ use Rattle.elf_image_rules.specs.Rules.{MAX_LEN, IsFault}
 use Rattle.elf_image_type.specs.ImageView.{Loads, LoadsFirst}
 use Rattle.elf_image_type.specs.WrittenFile.{spread}
 use Rattle.elf_link_field.specs.declared.rule.RelocRule.{RelocRule}
-use Rattle.elf_link_files.specs.Rows.{AreEach, FirstAmong}
+use Rattle.elf_link_files.specs.Rows.{AreEach, FirstAt}
 use Rattle.elf_link_map.specs.LinkMap.{LinkMapValue}
 use Rattle.elf_link_map.specs.Standing.{AreObjects, ObjectsFit}
 use Rattle.elf_link_relocate.specs.Fields.{applied_entry_rules}
 use Rattle.elf_link_relocate.specs.Loads.{file_size, load_in, loads}
-use Rattle.elf_link_relocate.specs.Linked.{identity_of, IsMemory, IsMapOfSome}
+use Rattle.elf_link_relocate.specs.Linked.{identity_of, IsMemory, IsSoundMap}
 use Rattle.elf_link_relocate.specs.declared.linked.Identity.{Identity}
 use Rattle.elf_object_type.specs.Object.{ObjectValue}
 
@@ -114,21 +114,21 @@ pub record ExecLaid (fs : List ObjectValue) (m : LinkMapValue) (rules : List Rel
 pub record IsSoundLink (fs : List ObjectValue) (m : LinkMapValue) (rules : List RelocRule) : Type 0 where
   pub objects : AreObjects fs
   pub widths : ObjectsFit fs
-  pub map : IsMapOfSome fs m
+  pub map : IsSoundMap fs m
   pub page : m.page < 2 ^ 64
-  pub relocated : FirstAmong (applied_entry_rules fs m rules) None
+  pub relocated : FirstAt (applied_entry_rules fs m rules) None
 
 -- ---- its executable
 
 -- b is the executable of a link, and neither has it more segments than e_phnum can report, nor is it longer than the longest file
-pub record IsExecFile (fs : List ObjectValue) (m : LinkMapValue) (rules : List RelocRule) (b : List ℕ) : Type 0 where
+pub record ExecFits (fs : List ObjectValue) (m : LinkMapValue) (rules : List RelocRule) (b : List ℕ) : Type 0 where
   pub laid : ExecLaid fs m rules b
   pub few : length (loads m) < PN_XNUM
   pub short : length b ≤ MAX_LEN
 
 -- b is an image: it enters at the map's entry, and its loadable segments give an address a byte exactly where memory has that byte there,
 -- so that what the first of them with an address gives it is memory's byte; and no other list of bytes is the executable of this link
-pub record IsExecutable (fs : List ObjectValue) (m : LinkMapValue) (rules : List RelocRule) (b : List ℕ) : Type 0 where
+pub record LoadsLink (fs : List ObjectValue) (m : LinkMapValue) (rules : List RelocRule) (b : List ℕ) : Type 0 where
   pub accepted : IsFault b None
   pub image : (v : ImageValue) × IsImage v b
   pub entry : (v : ImageValue) → Stands v b → v.header.e_entry ≡ m.entry
@@ -138,10 +138,10 @@ pub record IsExecutable (fs : List ObjectValue) (m : LinkMapValue) (rules : List
   pub one : (c : List ℕ) → ExecLaid fs m rules c → c ≡ b
 
 -- b is the executable of a link of these objects, by some options
-abbrev pub IsExecutableOf : List ObjectValue → List RelocRule → List ℕ → Type 0
-IsExecutableOf fs rules b = (m : LinkMapValue) × IsMapOfSome fs m × IsExecutable fs m rules b
+abbrev pub LoadsSomeLink : List ObjectValue → List RelocRule → List ℕ → Type 0
+LoadsSomeLink fs rules b = (m : LinkMapValue) × IsSoundMap fs m × LoadsLink fs m rules b
 
 -- what is found at an address is the byte that the memory of such a link has there, and nothing where it has none
 abbrev pub IsMemoryOf : List ObjectValue → List RelocRule → ℕ → Option ℕ → Type 0
 IsMemoryOf fs rules x found =
-    (m : LinkMapValue) × IsMapOfSome fs m × MatchOption found ((w : ℕ) → ¬ IsMemory fs m rules x w) (IsMemory fs m rules x)
+    (m : LinkMapValue) × IsSoundMap fs m × MatchOption found ((w : ℕ) → ¬ IsMemory fs m rules x w) (IsMemory fs m rules x)

@@ -4,11 +4,11 @@ ghost use Rattle.elf_exec.specs.declared.exec_writing.ExecFault.TheVariants.{Out
 ghost use Rattle.elf_image_stream.specs.Output.{Sends, Writes};
 ghost use Rattle.elf_field.specs.Abi.{EHDR_SIZE};
 ghost use Rattle.elf_exec.specs.ExecWriting.{loads_text, placed_header, placed_table, HasExecOf, IsExecWritten, IsTooLong};
-ghost use Rattle.elf_link_relocate.specs.Linked.{IsReadyLink};
+ghost use Rattle.elf_link_relocate.specs.Linked.{IsSoundLinked};
 
 use crate::headers::{ProgramHeaders, exec_header};
 use crate::pieces::send_loads;
-use crate::placed_exec::{PlacedExec, file_len, table_end};
+use crate::placed_exec::{PlacedExec, PlacingFault, file_len, table_end};
 use elf_field::abi::*;
 use elf_image_outline::{write_entries, write_records};
 use elf_image_stream::WriteFault;
@@ -47,6 +47,19 @@ impl<T: Drop> From<AllocFailed<T>> for ExecFault {
 
     fn from(_refused: AllocFailed<T>) -> ExecFault {
         ExecFault::OutOfMemory
+    }
+}
+
+impl From<PlacingFault> for ExecFault {
+    ghost use Rattle.elf_exec.specs.ExecWriting.{exec_fault};
+
+    ghost from_gives = { λ refused fault. fault ≡ exec_fault refused };
+
+    fn from(refused: PlacingFault) -> ExecFault {
+        match refused {
+            PlacingFault::TooLong => ExecFault::TooLong,
+            PlacingFault::OutOfMemory => ExecFault::OutOfMemory,
+        }
     }
 }
 
@@ -123,7 +136,7 @@ pub fn write_exec<W: Write>(
     linked: &Linked<'_, '_>,
     writer: &mut W,
 ) -> Result<(), ExecFault>
-    requires { IsReadyLink linked.now }
+    requires { IsSoundLinked linked.now }
     ensures { IsExecWritten linked.now (W.contents writer.old) (W.contents writer.new) result }
 {
     linked.prove_objects();
@@ -139,15 +152,15 @@ pub fn write_exec<W: Write>(
 /// How long the executable is that [`write_exec`] writes of these relocated bytes, in bytes; `None` if it writes none, because there are
 /// 0xffff segments or more, or the file would be longer than 2^30 bytes. Nothing is written. Fails only when out of memory.
 ///
-/// Memory is taken for the segments and their places alone. Linear in the outputs.
+/// Memory is taken for the segments, their places and the list of the parts alone. Linear in the outputs.
 pub fn exec_length(alloc: Global, linked: &Linked<'_, '_>) -> Result<Option<u64>, AllocError>
-    requires { IsReadyLink linked.now }
+    requires { IsSoundLinked linked.now }
     ensures { IfOk result (λ length. MatchOption length (IsTooLong linked.now) (HasExecOf linked.now)) }
 {
     linked.prove_objects();
     match PlacedExec::new(alloc, linked) {
         Ok(placed) => Ok(Some(file_len(&placed))),
-        Err(ExecFault::TooLong) => Ok(None),
-        Err(_) => Err(AllocError),
+        Err(PlacingFault::TooLong) => Ok(None),
+        Err(PlacingFault::OutOfMemory) => Err(AllocError),
     }
 }

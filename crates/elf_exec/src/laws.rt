@@ -1,13 +1,12 @@
 //! What the layers above may know of an executable.
 ghost use Rattle.std.specs.Prelude.{◌≡◌, ℕ, List, None};
-ghost use Rattle.elf_link_files.specs.Rows.{FirstAmong};
+ghost use Rattle.elf_link_files.specs.Rows.{FirstAt};
 ghost use Rattle.elf_link_map.specs.LinkMap.{LinkMapValue};
 ghost use Rattle.elf_link_field.specs.declared.rule.RelocRule.{RelocRule};
-ghost use Rattle.elf_link_relocate.specs.Linked.{LinkedValue, IsMapOfSome, IsReadyLink};
+ghost use Rattle.elf_link_relocate.specs.Linked.{LinkedValue, IsSoundMap, IsSoundLinked};
 ghost use Rattle.elf_link_relocate.specs.Fields.{applied_entry_rules};
 ghost use Rattle.elf_object_type.specs.Object.{ObjectValue};
-ghost use Rattle.elf_exec.specs.Executable.{ExecLaid, IsExecFile, IsExecutable, IsExecutableOf, IsMemoryOf, IsSoundLink};
-ghost use Rattle.elf_exec.specs.ExecWriting.{IsExec};
+ghost use Rattle.elf_exec.specs.Executable.{ExecLaid, ExecFits, LoadsLink, LoadsSomeLink, IsMemoryOf, IsSoundLink};
 ghost use Rattle.elf_image_outline.specs.Image.{IsImage};
 ghost use Rattle.elf_image_type.specs.ImageView.{LoadsFirst};
 
@@ -20,18 +19,18 @@ use elf_object_type::Object;
 /// link has that byte there. It is their only executable.
 pub fn executable()
     ensures { (fs : List ObjectValue) (m : LinkMapValue) (rules : List RelocRule) (b : List ℕ) →
-        IsSoundLink fs m rules → IsExecFile fs m rules b → IsExecutable fs m rules b }
+        IsSoundLink fs m rules → ExecFits fs m rules b → LoadsLink fs m rules b }
 {}
 
 /// Relocated bytes have an executable, however long it is.
 pub fn some_exec()
-    ensures { (l : LinkedValue) → IsReadyLink l → (b : List ℕ) × IsExec l b }
+    ensures { (l : LinkedValue) → IsSoundLinked l → (b : List ℕ) × ExecLaid l.objects l.map l.rules b }
 {}
 
 /// Some objects, their link map and relocation rules have at most one executable: no second list of bytes meets the definition.
 pub fn one_exec()
-    ensures { (fs : List ObjectValue) (m : LinkMapValue) (rules : List RelocRule) (a b : List ℕ) → IsMapOfSome fs m →
-        FirstAmong (applied_entry_rules fs m rules) None →
+    ensures { (fs : List ObjectValue) (m : LinkMapValue) (rules : List RelocRule) (a b : List ℕ) → IsSoundMap fs m →
+        FirstAt (applied_entry_rules fs m rules) None →
         ExecLaid fs m rules a → ExecLaid fs m rules b → a ≡ b }
 {}
 
@@ -46,7 +45,7 @@ pub fn prove_loaded(
     address: u64,
     found: Option<u8>,
 )
-    requires executable { IsExecutableOf objects.now rules.now file.now }
+    requires executable { LoadsSomeLink objects.now rules.now file.now }
     requires image { IsImage image.now file.now }
     requires found { (b : List ℕ) × IsImage image.now b × LoadsFirst b image.now.segments address found }
     ensures { IsMemoryOf objects.now rules.now address found }

@@ -5,16 +5,34 @@ ghost use Rattle.elf_field.specs.Abi.{EHDR_SIZE, PHDR_SIZE, PN_XNUM};
 ghost use Rattle.elf_image_rules.specs.Rules.{MAX_LEN};
 ghost use Rattle.elf_link_relocate.specs.Loads.{loads as all_loads, load_in, loads};
 ghost use Rattle.elf_exec.specs.Executable.{bytes_from, load_part, load_parts};
-ghost use Rattle.elf_link_relocate.specs.Linked.{IsReadyLink};
+ghost use Rattle.elf_link_relocate.specs.Linked.{IsSoundLinked};
 ghost use Rattle.elf_exec.specs.ExecWriting.{IsPartsFault, IsPlacingFault, exec_end, file_end, IsPlacedExec};
 
-use crate::exec_writing::ExecFault;
 use elf_extent::{PlaceFault, place};
 use elf_field::abi::*;
 use elf_image_rules::MAX_LEN;
 use elf_link_relocate::{Linked, Load, file_size, loads};
 use std::alloc::{AllocError, Global};
 use std::marker::Model;
+
+/// Why the segments of an executable have no places.
+#[derive(Clone, Copy, Debug, PartialEq, Eq)]
+pub(crate) enum PlacingFault {
+    /// There are 0xffff of them or more, or the file would be longer than the longest file.
+    TooLong,
+    /// An allocation failed.
+    OutOfMemory,
+}
+
+impl From<AllocError> for PlacingFault {
+    ghost use Rattle.elf_exec.specs.declared.placed_exec.PlacingFault.TheVariants.{OutOfMemory};
+
+    ghost from_gives = { λ _ fault. fault ≡ OutOfMemory };
+
+    fn from(_refused: AllocError) -> PlacingFault {
+        PlacingFault::OutOfMemory
+    }
+}
 
 // Where the bytes of the segments are in an executable: each at the least place that its alignment allows.
 
@@ -23,8 +41,8 @@ pub(crate) fn place_loads(
     alloc: Global,
     linked: &Linked<'_, '_>,
     loads: &[Load],
-) -> Result<Vec<u64>, ExecFault>
-    requires ready { IsReadyLink linked.now }
+) -> Result<Vec<u64>, PlacingFault>
+    requires ready { IsSoundLinked linked.now }
     requires are { loads.now ≡ all_loads linked.now.map }
     requires few { length loads.now < PN_XNUM }
     ensures least { IfOk result (λ places. Least (load_parts linked.now.map) (bytes_from linked.now.map) places.items) }
@@ -62,7 +80,7 @@ fn load_part(page: u64, load: Load) -> (u64, u64)
 }
 
 /// The least places of parts after `from` bytes, where they end in time.
-fn place_parts(alloc: Global, parts: &[(u64, u64)], from: u64) -> Result<Vec<u64>, ExecFault>
+fn place_parts(alloc: Global, parts: &[(u64, u64)], from: u64) -> Result<Vec<u64>, PlacingFault>
     requires { from ≤ MAX_LEN }
     ensures least { IfOk result (λ places. Least parts.now from places.items) }
     ensures short { IfOk result (λ places. file_end parts.now from places.items ≤ MAX_LEN) }
@@ -70,13 +88,13 @@ fn place_parts(alloc: Global, parts: &[(u64, u64)], from: u64) -> Result<Vec<u64
 {
     match place(alloc, parts, from) {
         Ok(places) => if_short(parts, from, places),
-        Err(PlaceFault::Overflow { .. }) => Err(ExecFault::TooLong),
-        Err(PlaceFault::OutOfMemory) => Err(ExecFault::OutOfMemory),
+        Err(PlaceFault::Overflow { .. }) => Err(PlacingFault::TooLong),
+        Err(PlaceFault::OutOfMemory) => Err(PlacingFault::OutOfMemory),
     }
 }
 
 /// These places, where the parts end in time.
-fn if_short(parts: &[(u64, u64)], from: u64, places: Vec<u64>) -> Result<Vec<u64>, ExecFault>
+fn if_short(parts: &[(u64, u64)], from: u64, places: Vec<u64>) -> Result<Vec<u64>, PlacingFault>
     requires from { from ≤ MAX_LEN }
     requires least { Least parts.now from places.items }
     requires fit { EndsFit parts.now places.items (length parts.now) }
@@ -85,7 +103,7 @@ fn if_short(parts: &[(u64, u64)], from: u64, places: Vec<u64>) -> Result<Vec<u64
     ensures err { IfErr result (IsPartsFault parts.now from) }
 {
     if file_end(parts, from, &places) > MAX_LEN {
-        return Err(ExecFault::TooLong);
+        return Err(PlacingFault::TooLong);
     }
     Ok(places)
 }
@@ -126,15 +144,15 @@ impl<'l, 'm, 'a> PlacedExec<'l, 'm, 'a> {
     pub(crate) fn new(
         alloc: Global,
         linked: &'l Linked<'m, 'a>,
-    ) -> Result<PlacedExec<'l, 'm, 'a>, ExecFault>
-        requires { IsReadyLink linked.now }
+    ) -> Result<PlacedExec<'l, 'm, 'a>, PlacingFault>
+        requires { IsSoundLinked linked.now }
         ensures ok { IfOk result (λ placed. placed.linked ≡ linked.now) }
         ensures placed { IfOk result IsPlacedExec }
         ensures err { IfErr result (IsPlacingFault linked.now) }
     {
         let loads = loads(alloc, linked.map())?;
         if loads.len() >= PN_XNUM as usize {
-            return Err(ExecFault::TooLong);
+            return Err(PlacingFault::TooLong);
         }
         let places = place_loads(alloc, linked, &loads)?;
         Ok(PlacedExec {

@@ -17,11 +17,14 @@
 //! ```
 #![tactic(auto)]
 
+pub mod laws;
+
 pub use elf_image_outline::{
     CopyFault, NoSection, Outline, Owner, Part, ReplaceFault, copy_image, scan,
 };
 pub use elf_image_rules::{rules, verdict};
 pub use elf_image_stream::{
-    Bytes, Failed, Failures, Fault, Seeking, Source, WriteFault, read_to_end, resume,
+    Bytes, Failed, Failures, Fault, Opened, Seeking, Source, Stream, WriteFault, read_to_end,
+    resume,
 };
 pub use elf_image_type::{Image, parse, write};

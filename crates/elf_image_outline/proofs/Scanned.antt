@@ -28,7 +28,7 @@ use Rattle.elf_image_outline.specs.Image.{value_names}
 use Rattle.elf_image_outline.specs.Outline.{image_in, outline_value, IsOutlineOf, IsSoundOutline, OutlineValue, blank_image, contents_in}
 use Rattle.elf_image_outline.specs.Outline.{image_of, placed_part}
 use Rattle.elf_image_outline.specs.Scanning.{KeepsHeadRules, KeepsTableRules, Scans, Stops, BreaksTables, HasTables, IsSharedFault, IsEndIn}
-use Rattle.elf_image_outline.specs.Scanning.{AreCleanTables, HasSizes, KeepTables, names_extent, names_place}
+use Rattle.elf_image_outline.specs.Scanning.{AreCleanTables, KeepTables, names_extent, names_place}
 use Rattle.elf_image_outline.specs.declared.outline.Part.{Part}
 use Rattle.elf_image_rules.proofs.Public.{FirstIn-sooner, fault_of_records, from_header, from_ident, from_length, from_program_table}
 use Rattle.elf_image_rules.proofs.Public.{from_section_table, from_tables, record_rules_of, sections_read_at, table_some, FirstIn-later}
@@ -266,11 +266,6 @@ pub ended_well : {T E : Type 0} (r : Result T E) (Alone : Type 0) (Value Says : 
 ended_well (Ok t) Alone Value Says alone value says = says t alone value
 ended_well (Err e) Alone Value Says alone value says = tt
 
--- the same of one that returns nothing
-pub ended_clean : {T E : Type 0} (r : Result T E) (Alone Says : Type 0) → OnOk r Alone → (Alone → Says) → OnOk r Says
-ended_clean (Ok t) Alone Says alone says = says alone
-ended_clean (Err e) Alone Says alone says = tt
-
 -- If tables were read from some bytes, they are the bytes' records, index by index, and the names are where the name table's header says.
 -- The rules look at no more (`same_rules`), so what they find in the tables is the fault of the bytes (`verdict_of_tables`). Without a
 -- fault, tables and parts make the image of the bytes.
@@ -443,19 +438,6 @@ stops_of_tables len b h c ss gs NoRoom says has records breaks =
     has.section_table has.program_table
 stops_of_tables len b h c ss gs (Breaks number at) says has records breaks =
     verdict_of_tables len b h c ss gs (Some (number, at)) says has records breaks
-
--- the counts of tables that were read of a file that breaks no rule are its sizes
-pub sizes_of_tables : (len : ℕ) (b : List ℕ) (h : Ehdr) (c : Counts) (ss : List Shdr) (gs : List Phdr) → len ≡ length b →
-    HasTables len h c ss gs → AreRecordsIn b h ss gs → AreCleanTables len h ss gs (names b h) →
-    HasSizes b (record { len = len; sections = c.sections; segments = c.segments })
-sizes_of_tables len b h c ss gs says has records clean =
-    let counts = counts_are b h (section_header_of ss 0) c records.header (sym (first_same len b h c ss gs has records)) has.counts in
-    record {
-      clean = verdict_of_tables len b h c ss gs None says has records clean;
-      len = says;
-      sections = ap (λ (k : Counts). k.sections) counts;
-      segments = ap (λ (k : Counts). k.segments) counts;
-    }
 
 -- tables and parts that were read of a file that breaks no rule make its image
 pub image_of_tables : (len : ℕ) (b : List ℕ) (h : Ehdr) (c : Counts) (ss : List Shdr) (gs : List Phdr) (ps : List Part) → len ≡ length b →

@@ -33,7 +33,7 @@ pub record HasTable {T : Type 0} (record_at : List ℕ → ℕ → T) (IsValid :
   pub failures : new ≡ old
   pub many : length vs ≡ count
   pub valid : AllByRecursion IsValid vs
-  pub told : (b : List ℕ) → content ≡ Some b → vs ≡ table_at record_at n b at count
+  pub known : (b : List ℕ) → content ≡ Some b → vs ≡ table_at record_at n b at count
 
 -- why there is no table of so many bytes: an allocation failed, and no call failed; or a read failed
 abbrev pub IsRecordsFault : Option (List ℕ) → Failures → Failures → ℕ → ℕ → RecordsFault → Type 0

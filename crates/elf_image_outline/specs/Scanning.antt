@@ -12,7 +12,6 @@ use Rattle.elf_field.specs.declared.phdr.Phdr.{Phdr}
 use Rattle.elf_field.specs.declared.shdr.Shdr.{Shdr}
 use Rattle.elf_image_outline.specs.Image.{part_piece, value_extents}
 use Rattle.elf_image_outline.specs.declared.outline.Part.{Part}
-use Rattle.elf_image_outline.specs.declared.scanning.FileSizes.{FileSizes}
 use Rattle.elf_image_rules.specs.Rows.{FirstIn}
 use Rattle.elf_image_rules.specs.Rules.{IsFault, KeepsRecordRules, MAX_LEN, header_rules, ident_rules, length_rules, image_rules}
 use Rattle.elf_image_rules.specs.Rules.{record_rules}
@@ -72,16 +71,10 @@ Stops b OutOfMemory = KeepsTableRules b
 Stops b (Io at) = IsScanRead b at
 Stops b (Rule number at) = IsFault b (Some (number, at))
 
+-- what a step of a scan of b returns: an answer that is right for b, or why there is none
 abbrev pub Scans : {T : Type 0} → List ℕ → (T → Type 0) → Result T Fault → Type 0
 Scans b IsAnswer (Ok t) = IsAnswer t
 Scans b IsAnswer (Err fault) = Stops b fault
-
--- the file breaks no rule, is so long, and has so many section headers and program headers
-pub record HasSizes (b : List ℕ) (sizes : FileSizes) : Type 0 where
-  pub clean : IsFault b None
-  pub len : sizes.len ≡ length b
-  pub sections : sizes.sections ≡ (file_counts b).sections
-  pub segments : sizes.segments ≡ (file_counts b).segments
 
 -- where the section name string table of index k is; 0 is none
 abbrev pub names_extent : List Shdr → ℕ → Extent

@@ -28,24 +28,6 @@ fn validate_sharing(sorted: &SortedExtents<'_>) -> Result<(), Broken<u64>>
     }
 }
 
-/// Rule 33 of a file with this header and these tables: no byte lies in two of its extents. Otherwise it is broken at the lowest such byte.
-pub(crate) fn validate_unshared(
-    alloc: Global,
-    header: &Ehdr,
-    sections: &[Shdr],
-    segments: &[Phdr],
-) -> Result<(), BytesFault>
-    requires sections { SHDR_SIZE * length sections.now < 2 ^ 64 }
-    requires segments { PHDR_SIZE * length segments.now < 2 ^ 64 }
-    ensures unshared { OnOk result (IsLowest (Doubly (value_extents header.now sections.now segments.now)) None) }
-    ensures err { IfErr result (IsSharedFault (value_extents header.now sections.now segments.now)) }
-{
-    let extents = extents_of(alloc, header, sections, segments)?;
-    let sorted = SortedExtents::new(alloc, &extents)?;
-    validate_sharing(&sorted)?;
-    Ok(())
-}
-
 /// The parts of a file of `len` bytes with this header and these tables, if no byte lies in two of them; otherwise rule 33, at the lowest
 /// such byte. The extents are sorted once for both.
 pub(crate) fn unshared_parts(

@@ -19,8 +19,8 @@ use std::alloc::{AllocError, Global};
 /// The records and the parts of an ELF-64 file in memory that breaks no rule: what [`scan`](crate::scan) reads of these bytes.
 ///
 /// [`BytesFault::Rule`] is the first of rules 1 to 33 that the bytes break, with the lowest offset where they break it.
-/// [`BytesFault::OutOfMemory`] comes only if an allocation fails, and they break none of rules 1 to 32. Memory is taken for the two tables
-/// and a list of the extents of the file. Sorting these takes n log n comparisons; all else is linear in the records.
+/// [`BytesFault::OutOfMemory`] comes only if an allocation fails, and they break none of rules 1 to 32. Memory is taken for the two tables,
+/// two lists of the extents of the file, and its parts. Sorting takes n log n comparisons; all else is linear in the records.
 pub fn outline_of(alloc: Global, bytes: &[u8]) -> Result<Outline, BytesFault>
     ensures image { IfOk result (λ outline. IsImage (image_in outline bytes.now) bytes.now) }
     ensures of { IfOk result (λ outline. IsOutlineOf outline bytes.now) }

@@ -3,7 +3,7 @@ ghost use Rattle.std.specs.Prelude.{◌≡◌, ◌≤◌, ◌+◌, ℕ, List, So
 ghost use Rattle.std.specs.List.{AllByRecursion};
 ghost use Rattle.elf_field.specs.Abi.{SHDR_SIZE};
 ghost use Rattle.elf_field.specs.Headers.{IsEhdr, IsShdr, shdr_at};
-ghost use Rattle.elf_image_outline.specs.Scanning.{HasSizes, KeepsHeadRules, Scans, scan_failure, HasTables, KeepsTableRules, names_extent};
+ghost use Rattle.elf_image_outline.specs.Scanning.{KeepsHeadRules, Scans, scan_failure, HasTables, KeepsTableRules, names_extent};
 ghost use Rattle.elf_image_rules.specs.Rules.{MAX_LEN, AreEnds};
 ghost use Rattle.elf_image_rules.specs.Tables.{header as header_in, file_counts, no_section_header, order_of, section_header_of};
 ghost use Rattle.elf_image_rules.specs.Tables.{sections as sections_in, names as names_in};
@@ -14,7 +14,7 @@ ghost use Rattle.elf_image_outline.specs.Outline.{IsOutlineOf, image_in};
 
 use crate::outline::Outline;
 use crate::records::{read_ends, read_record, read_records};
-use crate::validated::{validate_tables, validated_parts};
+use crate::validated::validated_parts;
 use elf_extent::Extent;
 use elf_field::abi::{EHDR_SIZE, EI_NIDENT};
 use elf_field::{Ehdr, Phdr, Record, Shdr};
@@ -201,42 +201,13 @@ pub(crate) fn scan_names<S: Source>(
     Ok(read_ends(source, extent.start, there)?)
 }
 
-/// How long a file is in bytes, and how many section headers and program headers it has.
-#[derive(Clone, Copy, Debug, PartialEq, Eq)]
-pub struct FileSizes {
-    pub len: u64,
-    pub sections: u64,
-    pub segments: u64,
-}
-
-/// How long an ELF-64 file is that breaks no rule, and how many entries its tables have. It reads what [`scan`] reads of a source, and
-/// refuses what `scan` refuses.
-///
-/// The faults are those of `scan`, and come when they come there. The parts of the file are not listed: memory is taken for the two tables
-/// and two lists of the extents of the file, 40 bytes for each section.
-pub fn scan_sizes<S: Source>(alloc: Global, source: &mut S) -> Result<FileSizes, Fault>
-    ensures kept { S.content source.new ≡ S.content source.old }
-    ensures failures { Remembers (scan_failure result) (S.failures source.old) (S.failures source.new) }
-    ensures known { (b : List ℕ) → S.content source.old ≡ Some b → Scans b (HasSizes b) result }
-{
-    let head = scan_head(source)?;
-    let tables = scan_tables(alloc, source, &head)?;
-    let ends = scan_names(source, head.len, &tables)?;
-    validate_tables(alloc, head.len, &tables, ends)?;
-    Ok(FileSizes {
-        len: head.len,
-        sections: tables.counts.sections,
-        segments: tables.counts.segments,
-    })
-}
-
 /// The records and the parts of an ELF-64 file that breaks no rule, read of a source: the header, the two tables and the ends of the
 /// section name string table are read, and no other byte.
 ///
 /// [`Fault::Rule`] is the first of rules 1 to 33 that the bytes break, with the lowest offset where they break it. [`Fault::Io`] has the
 /// offset of a call that failed (0 for a failed `length`), or that gave no byte though the length says that there is one. After such a call
-/// nothing else is returned. [`Fault::OutOfMemory`] comes only if an allocation fails. Memory is taken from rule 22 on, for the two tables
-/// and a list of the extents of the file. Sorting these takes n log n comparisons; all else is linear in the records.
+/// nothing else is returned. [`Fault::OutOfMemory`] comes only if an allocation fails. Memory is taken from rule 22 on, for the two tables,
+/// two lists of the extents of the file, and its parts. Sorting takes n log n comparisons; all else is linear in the records.
 pub fn scan<S: Source>(alloc: Global, source: &mut S) -> Result<Outline, Fault>
     ensures kept { S.content source.new ≡ S.content source.old }
     ensures failures { Remembers (scan_failure result) (S.failures source.old) (S.failures source.new) }

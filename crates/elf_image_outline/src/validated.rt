@@ -5,39 +5,12 @@ ghost use Rattle.elf_image_outline.specs.Scanning.{AreCleanTables, BreaksTables,
 ghost use Rattle.elf_image_rules.specs.Rules.{AreEnds};
 ghost use Rattle.elf_image_rules.specs.Tables.{section_header_of};
 
-use crate::extents::{unshared_parts, validate_unshared};
+use crate::extents::unshared_parts;
 use crate::outline::Part;
 use crate::scanning::Tables;
 use elf_image_rules::{TableEnds, TableRecords, validate_entries};
 use elf_image_stream::BytesFault;
 use std::alloc::Global;
-
-/// Whether a file of `len` bytes with these tables, and a section name string table with these ends, breaks none of rules 22 to 33;
-/// otherwise the first of them. Memory is taken only if none of rules 22 to 32 is broken, for the list of the extents of the file.
-pub(crate) fn validate_tables(
-    alloc: Global,
-    len: u64,
-    tables: &Tables,
-    ends: TableEnds,
-) -> Result<(), BytesFault>
-    requires tables { HasTables len tables.now.header tables.now.counts tables.now.sections.items tables.now.segments.items }
-    requires some { (names : List ℕ) × AreEnds ends names }
-    requires place { 0 < ends.len → (section_header_of tables.now.sections.items tables.now.counts.name_table).sh_offset + ends.len ≤ len }
-    requires clipped { let names = names_extent tables.now.sections.items tables.now.counts.name_table in
-        ends.len ≡ min (len - names.start) names.len }
-    ensures ok { OnOk result ((names : List ℕ) → AreEnds ends names →
-        AreCleanTables len tables.now.header tables.now.sections.items tables.now.segments.items names) }
-    ensures err { IfErr result (λ fault. (names : List ℕ) → AreEnds ends names →
-        BreaksTables len tables.now.header tables.now.sections.items tables.now.segments.items names fault) }
-{
-    let records = TableRecords {
-        sections: &tables.sections,
-        segments: &tables.segments,
-    };
-    let header = &tables.header;
-    validate_entries(&records, header, tables.counts, ends, len)?;
-    validate_unshared(alloc, header, &tables.sections, &tables.segments)
-}
 
 /// The parts of a file of `len` bytes with these tables, and a section name string table with these ends; otherwise the first of rules
 /// 22 to 33 that they break. Memory is taken only if they break none of rules 22 to 32.

@@ -8,7 +8,7 @@ use Rattle.std.specs.Io.KnownBytes.{Appends, Consumes, IsAtEnd, Keeps}
 use native.Mathlib.Numerals.{unary_clauses}
 use native.Mathlib.Omega.{arith as omega_arith}
 use lib.Seq.{take-append_seam}
-use Rattle.elf_image_stream.specs.Reading.{IsReadBehind}
+use Rattle.elf_image_stream.specs.Reading.{AppendsRead}
 use Rattle.elf_image_stream.specs.Source.{HasFailed, Fails, Reaches, Remembers, GivesAt}
 use Rattle.elf_image_stream.specs.declared.source.Failures.{Failures}
 
@@ -52,31 +52,31 @@ Appends-more a b c bytes n m before write =
     rw take-add (Appends-trans a b c _ _ before rest)
 
 -- before the first read nothing is after what was there
-pub nothing_read : (a : Option (List ℕ)) (old : List ℕ) (n : ℕ) → length old ≤ n → IsReadBehind a a old (take n old)
-nothing_read a old n within = record { given = []; behind = take_all n old within ∙ sym (append-nil old); taken = Consumes-nil a }
+pub nothing_read : (a : Option (List ℕ)) (old : List ℕ) (n : ℕ) → length old ≤ n → AppendsRead a a old (take n old)
+nothing_read a old n within = record { given = []; appended = take_all n old within ∙ sym (append-nil old); taken = Consumes-nil a }
 
 -- what one more read gave follows what was read
 pub read_more : (a b c : Option (List ℕ)) (front old mid new : List ℕ) (n m : ℕ) → take n mid ≡ take n old → take n new ≡ take n mid
-    → IsReadBehind a b front (take n old) → Consumes b c (take m (drop n new)) → IsReadBehind a c front (take (n + m) new)
+    → AppendsRead a b front (take n old) → Consumes b c (take m (drop n new)) → AppendsRead a c front (take (n + m) new)
 read_more a b c front old mid new n m room kept before read = record {
   given = before.given ++ take m (drop n new);
-  behind = take-add n m new ∙ ap (λ l. l ++ take m (drop n new)) (kept ∙ room ∙ before.behind) ∙
+  appended = take-add n m new ∙ ap (λ l. l ++ take m (drop n new)) (kept ∙ room ∙ before.appended) ∙
       append_assoc front before.given (take m (drop n new));
   taken = Consumes-trans a b c before.given (take m (drop n new)) before.taken read;
 }
 
 -- a read that gave nothing
 pub read_none : (a b c : Option (List ℕ)) (front old mid new : List ℕ) (n : ℕ) → take n mid ≡ take n old → take n new ≡ take n mid
-    → IsReadBehind a b front (take n old) → Consumes b c [] → IsReadBehind a c front (take n new)
+    → AppendsRead a b front (take n old) → Consumes b c [] → AppendsRead a c front (take n new)
 read_none a b c front old mid new n room kept before none = record {
   given = before.given ++ [];
-  behind = kept ∙ room ∙ before.behind ∙ ap (λ l. front ++ l) (sym (append-nil before.given));
+  appended = kept ∙ room ∙ before.appended ∙ ap (λ l. front ++ l) (sym (append-nil before.given));
   taken = Consumes-trans a b c before.given [] before.taken none;
 }
 
 -- a read that failed gave nothing
 pub read_failed : (a b c : Option (List ℕ)) (front old mid new : List ℕ) (n : ℕ) → take n mid ≡ take n old → take n new ≡ take n mid
-    → IsReadBehind a b front (take n old) → Keeps b c → IsReadBehind a c front (take n new)
+    → AppendsRead a b front (take n old) → Keeps b c → AppendsRead a c front (take n new)
 read_failed a b c front old mid new n room kept before same =
     read_none a b c front old mid new n room kept before (Consumes-kept b b c [] (Consumes-nil b) same)
 
@@ -92,15 +92,15 @@ gives_first (Some bytes) (Some rest) (Ok u) xs n taken within (inl end) =
 gives_first (Some bytes) (Some rest) (Ok u) xs n taken within (inr long) = rw (taken, ← long) (sym (take-append_seam xs rest))
 
 -- a reader that is at its end, or filled what holds at most n bytes, gave its first bytes, up to n in all
-pub gives_up_to : {U E : Type 0} (a b : Option (List ℕ)) (result : Result U E) (old new : List ℕ) (n : ℕ) → IsReadBehind a b old new →
+pub gives_up_to : {U E : Type 0} (a b : Option (List ℕ)) (result : Result U E) (old new : List ℕ) (n : ℕ) → AppendsRead a b old new →
     length new ≤ n
     → OnOk result (IsAtEnd b ⊎ (length new ≡ n)) → OnOk result (IfSome a (λ bytes. new ≡ old ++ take (n - length old) bytes))
 gives_up_to a b (Err e) old new n read within ends = tt
 gives_up_to None b (Ok u) old new n read within ends = tt
 gives_up_to {E = E} (Some bytes) b (Ok u) old new n read within ends =
-    let counted : length new ≡ length old + length read.given = rw read.behind (length-append old read.given) in
+    let counted : length new ≡ length old + length read.given = rw read.appended (length-append old read.given) in
     let most : length read.given ≤ n - length old = omega (omega_arith, counted, within) in
-    read.behind ∙
+    read.appended ∙
     ap (λ l. old ++ l) (gives_first {E = E} (Some bytes) b (Ok u) read.given (n - length old) read.taken most (full ends counted))
   where
     full : IsAtEnd b ⊎ (length new ≡ n) → length new ≡ length old + length read.given → IsAtEnd b ⊎ (length read.given ≡ n - length old)

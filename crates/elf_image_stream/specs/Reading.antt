@@ -18,7 +18,7 @@ IsInputFailure NoMemory count = Unit {0}
 IsInputFailure (FailedAt at) count = at ≡ count
 
 -- what a buffer holds then is what it held, and after it what the reader gave
-pub record IsReadBehind (before after : Option (List ℕ)) (old new : List ℕ) : Type 0 where
+pub record AppendsRead (before after : Option (List ℕ)) (old new : List ℕ) : Type 0 where
   pub given : List ℕ
-  pub behind : new ≡ old ++ given
+  pub appended : new ≡ old ++ given
   pub taken : Consumes before after given

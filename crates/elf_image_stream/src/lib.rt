@@ -2,7 +2,8 @@
 //!
 //! **In**: [`read_to_end`] takes all bytes of a reader, however its reads are cut, and [`resume`] goes on where it stopped. Bytes that can
 //! be read at any offset, as those of a file on a disk, are a [`Source`]. A call reads at one offset, and the source remembers its
-//! [`Failures`]. [`Bytes`] is one over memory, [`Seeking`] one over a file that can seek. [`read_exactly`] fills a buffer from it.
+//! [`Failures`]. [`Bytes`] is one over memory, [`Seeking`] one over a [`Stream`]: a file that is [`Opened`], or a
+//! cursor over known bytes. [`read_exactly`] fills a buffer from it.
 //!
 //! **Out**: [`write_whole`] writes bytes, and [`output`] zeros too. Each counts the bytes that are written. A text that is written chunk by
 //! chunk, without memory, is *sent*: a call takes how many bytes are written, and returns how many are written after it. [`send`] sends
@@ -23,4 +24,6 @@ pub use chunks::{Chunks, send, send_all, send_zeros};
 pub use fault::{BytesFault, Fault, InputFault, WriteFault};
 pub use output::write_whole;
 pub use reading::{read_all, read_to_end, resume};
-pub use source::{Bytes, Failed, Failures, ReadFault, Seeking, Source, read_exactly};
+pub use source::{
+    Bytes, Failed, Failures, Opened, ReadFault, Seeking, Source, Stream, read_exactly,
+};

@@ -2,7 +2,7 @@
 ghost use Rattle.std.specs.Prelude.{◌≡◌, ◌+◌, ◌-◌, ◌<◌, ◌≤◌, ◌⊎◌, [], ◌++◌, length, take, drop, vec_len, IfErr, IfOk, IfSome, OnErr, OnOk};
 ghost use Rattle.std.specs.Io.KnownBytes.{Consumes, IsAtEnd, Keeps};
 ghost use Rattle.elf_image_rule_names.specs.Longest.{MAX_LEN};
-ghost use Rattle.elf_image_stream.specs.Reading.{IsInputFailure, IsReadBehind, IsReadFault};
+ghost use Rattle.elf_image_stream.specs.Reading.{IsInputFailure, AppendsRead, IsReadFault};
 
 use crate::fault::{Fault, InputFault};
 use std::alloc::AllocError;
@@ -70,7 +70,7 @@ pub fn read_all<R: Read>(reader: &mut R, buf: &mut Vec<u8>) -> Result<(), InputF
 /// memory, also ahead of what is read.
 pub fn resume<R: Read>(reader: &mut R, buf: &mut Vec<u8>) -> Result<(), Fault>
     requires room { vec_len buf.old ≤ MAX_LEN + 1 }
-    ensures taken { IsReadBehind (R.remaining reader.old) (R.remaining reader.new) buf.old.items buf.new.items }
+    ensures taken { AppendsRead (R.remaining reader.old) (R.remaining reader.new) buf.old.items buf.new.items }
     ensures limit { vec_len buf.new ≤ MAX_LEN + 1 }
     ensures ok { OnOk result (IsAtEnd (R.remaining reader.new) ⊎ (vec_len buf.new ≡ MAX_LEN + 1)) }
     ensures fault { IfErr result (λ e. IsReadFault e (vec_len buf.new)) }
@@ -85,7 +85,7 @@ pub fn resume<R: Read>(reader: &mut R, buf: &mut Vec<u8>) -> Result<(), Fault>
 // Reads on as [`resume`] does.
 fn read_on<R: Read>(reader: &mut R, buf: &mut Vec<u8>) -> Result<(), InputFault>
     requires room { vec_len buf.old ≤ MAX_LEN + 1 }
-    ensures taken { IsReadBehind (R.remaining reader.old) (R.remaining reader.new) buf.old.items buf.new.items }
+    ensures taken { AppendsRead (R.remaining reader.old) (R.remaining reader.new) buf.old.items buf.new.items }
     ensures limit { vec_len buf.new ≤ MAX_LEN + 1 }
     ensures ok { OnOk result (IsAtEnd (R.remaining reader.new) ⊎ (vec_len buf.new ≡ MAX_LEN + 1)) }
     ensures fault { IfErr result (λ e. IsInputFailure e (vec_len buf.new)) }
@@ -101,7 +101,7 @@ fn read_on<R: Read>(reader: &mut R, buf: &mut Vec<u8>) -> Result<(), InputFault>
 fn fill<R: Read>(reader: &mut R, buf: &mut Vec<u8>) -> (usize, Result<(), InputFault>)
     requires room { vec_len buf.old ≤ MAX_LEN + 1 }
     ensures within { result.0 ≤ vec_len buf.new }
-    ensures taken { IsReadBehind (R.remaining reader.old) (R.remaining reader.new) buf.old.items (take result.0 buf.new.items) }
+    ensures taken { AppendsRead (R.remaining reader.old) (R.remaining reader.new) buf.old.items (take result.0 buf.new.items) }
     ensures limit { result.0 ≤ MAX_LEN + 1 }
     ensures ok { OnOk result.1 (IsAtEnd (R.remaining reader.new) ⊎ (result.0 ≡ MAX_LEN + 1)) }
     ensures fault { IfErr result.1 (λ e. IsInputFailure e result.0) }

@@ -1,11 +1,11 @@
 //! Bytes that are read at any place, as those of a file on a disk.
 ghost use Rattle.std.specs.Prelude.{◌≡◌, ◌≤◌, length, IfOk, None, ◌-◌, ◌++◌, Ok, drop, min, take, ◌<◌, ◌+◌, ◌^◌};
 ghost use Rattle.elf_field.specs.Bytes.{IsBytes};
-ghost use Rattle.elf_image_stream.specs.Source.{GivesFrom, RemembersCall, RemembersRead, ReportsBytes, SaysLength, Fails, no_failures};
-ghost use Rattle.elf_image_stream.specs.Source.{Reads};
+ghost use Rattle.elf_image_stream.specs.Source.{GivesFrom, RemembersCall, RemembersRead, ReportsBytes, SaysLength};
+ghost use Rattle.elf_image_stream.specs.Source.{Fails, Reads, no_failures};
 
 use crate::fault::Fault;
-use std::io::{Read, Seek, SeekFrom};
+use std::io::{Cursor, Read, Seek, SeekFrom};
 use thiserror::Error;
 
 /// A call of a source failed.
@@ -137,8 +137,110 @@ impl Bytes<'_> {
 
 // What seeks and reads, as an open file, as a source.
 
-/// Seeks to each offset and reads there. It does not report its bytes. A seek that fails counts as a failed call, an interruption too, and
-/// so does a read that returns no byte though the buffer is not empty.
+/// Bytes with a position in them, as those of an open file.
+pub trait Stream {
+    ghost use Rattle.std.specs.Prelude.{◌≡◌, ◌≢◌, ◌≤◌, true, false, ℕ, List, None, Option, Some, IfOk, IfSome, OnOk, drop, length};
+    ghost use Rattle.elf_image_stream.specs.Source.{GivesAt, ReportsBytes, SaysLength};
+
+    // All bytes from offset 0 on, where they are known.
+    ghost bytes: { Self → Option (List ℕ) } = { λ _. None };
+
+    // Those from the position on.
+    ghost rest: { Self → Option (List ℕ) } = { λ _. None };
+
+    /// Whether the bytes are known.
+    fn is_known(&self) -> bool
+        ensures known { result ≡ true → bytes self.now ≢ None }
+        ensures unknown { result ≡ false → bytes self.now ≡ None };
+
+    /// Moves the position to this offset.
+    fn go_to(&mut self, at: u64) -> Result<(), Failed>
+        ensures kept { bytes self.new ≡ bytes self.old }
+        ensures moved { OnOk result (IfSome (bytes self.old) (λ b. rest self.new ≡ Some (drop at b))) };
+
+    /// Moves the position to the end, and returns it.
+    fn end(&mut self) -> Result<u64, Failed>
+        ensures kept { bytes self.new ≡ bytes self.old }
+        ensures bytes { ReportsBytes (bytes self.old) }
+        ensures length { SaysLength (bytes self.old) result };
+
+    /// Reads bytes at the position to the front of `buf`, and returns how many. They may be fewer than `buf` can hold.
+    fn read_on(&mut self, buf: &mut [u8]) -> Result<usize, Failed>
+        ensures kept { bytes self.new ≡ bytes self.old }
+        ensures bound { IfOk result (λ k. k ≤ length buf.new) }
+        ensures same { length buf.new ≡ length buf.old }
+        ensures gives { IfOk result (λ k. IfSome (rest self.old) (λ r. GivesAt r 0 k buf.new)) };
+}
+
+/// What the machine seeks and reads. Its bytes are not known: a file may change while it is read.
+#[derive(Debug, Drop)]
+pub struct Opened<F>(pub F);
+
+impl<F: Read + Seek> Stream for Opened<F> {
+    fn is_known(&self) -> bool {
+        false
+    }
+
+    fn go_to(&mut self, at: u64) -> Result<(), Failed> {
+        match self.0.seek(SeekFrom::Start(at)) {
+            Ok(_) => Ok(()),
+            Err(_) => Err(Failed),
+        }
+    }
+
+    fn end(&mut self) -> Result<u64, Failed> {
+        match self.0.seek(SeekFrom::End(0)) {
+            Ok(length) => Ok(length),
+            Err(_) => Err(Failed),
+        }
+    }
+
+    fn read_on(&mut self, buf: &mut [u8]) -> Result<usize, Failed> {
+        match self.0.read(buf) {
+            Ok(count) => Ok(count),
+            Err(_) => Err(Failed),
+        }
+    }
+}
+
+/// Bytes in memory with a position. They are known.
+impl<'a> Stream for Cursor<&'a [u8]> {
+    ghost use Rattle.std.specs.Prelude.{Some, drop};
+    ghost use Rattle.std.specs.Io.Cursor.{cursor_inner, cursor_position};
+
+    ghost bytes = { λ c. Some (cursor_inner c).now };
+
+    ghost rest = { λ c. Some (drop (cursor_position c) (cursor_inner c).now) };
+
+    fn is_known(&self) -> bool {
+        true
+    }
+
+    fn go_to(&mut self, at: u64) -> Result<(), Failed> {
+        match self.seek(SeekFrom::Start(at)) {
+            Ok(_) => Ok(()),
+            Err(_) => Err(Failed),
+        }
+    }
+
+    fn end(&mut self) -> Result<u64, Failed> {
+        prove_bytes(self.get_ref());
+        match self.seek(SeekFrom::End(0)) {
+            Ok(length) => Ok(length),
+            Err(_) => Err(Failed),
+        }
+    }
+
+    fn read_on(&mut self, buf: &mut [u8]) -> Result<usize, Failed> {
+        match self.read(buf) {
+            Ok(count) => Ok(count),
+            Err(_) => Err(Failed),
+        }
+    }
+}
+
+/// Goes to each offset and reads there. It reports the bytes of its stream, where they are known. A call of the stream that fails counts as
+/// a failed call: an interruption too, and of [`Opened`] a read that returns no byte though the buffer is not empty.
 #[derive(Debug, Drop)]
 pub struct Seeking<F> {
     inner: F,
@@ -146,9 +248,10 @@ pub struct Seeking<F> {
 }
 
 impl<F> Seeking<F> {
-    /// A source over this file, no call of which has failed.
+    /// A source over this stream, no call of which has failed.
     pub fn new(inner: F) -> Seeking<F>
-        ensures { result.failures ≡ no_failures }
+        ensures inner { result.inner ≡ inner }
+        ensures failures { result.failures ≡ no_failures }
     {
         Seeking {
             inner,
@@ -157,25 +260,24 @@ impl<F> Seeking<F> {
     }
 }
 
-/// One seek to the offset, and one read there.
-fn read_there<F: Read + Seek>(file: &mut F, at: u64, buf: &mut [u8]) -> Result<usize, Failed>
+/// One move to the offset, and one read there.
+fn read_there<F: Stream>(stream: &mut F, at: u64, buf: &mut [u8]) -> Result<usize, Failed>
+    ensures kept { F.bytes stream.new ≡ F.bytes stream.old }
     ensures bound { IfOk result (λ k. k ≤ length buf.new) }
     ensures same { length buf.new ≡ length buf.old }
+    ensures gives { GivesFrom (F.bytes stream.old) at result buf.new }
 {
-    let Ok(_) = file.seek(SeekFrom::Start(at)) else {
-        return Err(Failed);
-    };
-    match file.read(buf) {
-        Ok(count) => Ok(count),
-        Err(_) => Err(Failed),
-    }
+    stream.go_to(at)?;
+    stream.read_on(buf)
 }
 
-impl<F: Read + Seek> Source for Seeking<F> {
+impl<F: Stream> Source for Seeking<F> {
+    ghost content = { λ s. F.bytes s.inner };
+
     ghost failures = { λ s. s.failures };
 
     fn length(&mut self) -> Result<u64, Failed> {
-        match self.inner.seek(SeekFrom::End(0)) {
+        match self.inner.end() {
             Ok(length) => Ok(length),
             Err(_) => {
                 self.failures = self.failures.and_one_at(0);
@@ -187,7 +289,9 @@ impl<F: Read + Seek> Source for Seeking<F> {
     fn read_at(&mut self, at: u64, buf: &mut [u8]) -> Result<usize, Failed> {
         let room = buf.len();
         let read = read_there(&mut self.inner, at, buf);
-        self.failures = self.failures.and_read(at, room, &read);
+        if read.is_err() || !self.inner.is_known() {
+            self.failures = self.failures.and_read(at, room, &read);
+        }
         read
     }
 }

@@ -13,10 +13,11 @@ ghost use Rattle.elf_image_type.specs.WrittenFile.{encoding as encoding_of, iden
 use crate::image::Image;
 use elf_field::abi::*;
 use elf_field::{Order, Shdr};
-use elf_image_outline::{Outline, Owner, Part, outline_of, write_records};
+use elf_image_outline::{Outline, Owner, Part, outline_of, scan, write_records};
 use elf_image_rules::tables::content_of;
+use elf_image_rules::validate_records;
 use elf_image_stream::output::write_zeros;
-use elf_image_stream::{BytesFault, Fault, WriteFault, write_whole};
+use elf_image_stream::{Bytes, BytesFault, Fault, WriteFault, write_whole};
 use std::alloc::{AllocError, Global};
 use std::io::Write;
 
@@ -36,10 +37,15 @@ pub fn parse<'a>(alloc: Global, bytes: &'a [u8]) -> Result<Image<'a>, Fault>
     ensures one_image { IfOk result (λ image. (other : ImageValue) → IsImage other bytes.entry.now → other ≡ image) }
     ensures one_fault { HaveOneFault (rules_in bytes.entry.now) }
 {
-    Ok(parse_bytes(alloc, bytes)?)
+    // These rules take no memory, so that running out of it never hides one that is broken.
+    validate_records(bytes)?;
+    let outline = scan(alloc, &mut Bytes(bytes))?;
+    let contents = contents_of(alloc, bytes, outline.sections())?;
+    Ok(Image::new(outline, bytes, contents))
 }
 
-/// The image that these bytes are, as [`parse`] makes it, whose fault is the public form of this one.
+/// The image that these bytes are, as [`parse`] makes it, for callers whose own faults know no failed read. Each rule is tested once, where
+/// the records are: [`parse`] goes the way of every source, by [`scan`].
 pub fn parse_bytes<'a>(alloc: Global, bytes: &'a [u8]) -> Result<Image<'a>, BytesFault>
     ensures ok { IfOk result (λ image. IsImage image bytes.entry.now) }
     ensures err { IfErr result (StopsInMemory bytes.entry.now) }

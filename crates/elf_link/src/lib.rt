@@ -19,10 +19,11 @@
 //! ```
 #![tactic(auto)]
 
+pub mod laws;
 pub mod rules;
 
 pub use elf_link_field::{Form, Range, RelocRule, Width};
 pub use elf_link_files::{LinkFault, Options};
-pub use elf_link_map::{Binding, LinkMap, map};
+pub use elf_link_map::{Binding, LinkMap, Named, map};
 pub use elf_link_outputs::{Common, Member, Output};
 pub use elf_link_relocate::{Identity, Linked, relocate};

@@ -9,7 +9,7 @@ use Rattle.elf_extent.specs.Extent.{IsLeast}
 use Rattle.elf_image_rules.proofs.Public.{one_fault_by, HasFirst, least_or_never, some_first}
 use Rattle.elf_image_rules.specs.Rows.{Row, Ruled}
 use Rattle.elf_link_files.specs.Files.{IsEarlier, object_at}
-use Rattle.elf_link_files.specs.Rows.{IsFirstAt, AreEach, Lists, UpTo, site, site_at, AtEach, Before, AreOnce, FirstAmong, AtSymbol}
+use Rattle.elf_link_files.specs.Rows.{IsFirstAt, AreEach, Lists, UpTo, site, site_at, AtEach, Before, AreOnce, FirstAt, AtSymbol}
 use Rattle.elf_link_files.specs.declared.site.Site.{Site}
 use Rattle.elf_object_type.specs.Object.{ObjectValue}
 
@@ -323,7 +323,7 @@ one_site_list row (x ∷ xs) (y ∷ ys) is are =
 -- ---- rules
 
 -- rules at sites have one fault
-pub one_found : (rules : List {1} (Ruled Site)) (a b : Option (ℕ × Site)) → FirstAmong rules a → FirstAmong rules b → a ≡ b
+pub one_found : (rules : List {1} (Ruled Site)) (a b : Option (ℕ × Site)) → FirstAt rules a → FirstAt rules b → a ≡ b
 one_found = one_fault_by IsFirstAt (λ row p first. first.stands) one_first
 
 -- A row that is broken somewhere is broken at a first site, if it can be tested at each symbol. Look for the least file that has such a
@@ -420,5 +420,5 @@ first_or_never row none = least_or_never (InFile row) by_file where
   by_file (inl (f, file)) = least_or_never (AtIndex row f) (by_index f file)
   by_file (inr never) = none (inr (λ p stands. never p.file (p.index, p.entry, stands)))
 
-pub some_site : (rules : List {1} (Ruled Site)) → ¬ ((x : Option (ℕ × Site)) → ¬ FirstAmong rules x)
+pub some_site : (rules : List {1} (Ruled Site)) → ¬ ((x : Option (ℕ × Site)) → ¬ FirstAt rules x)
 some_site rules = some_first IsFirstAt first_or_never rules

@@ -100,7 +100,7 @@ is_loadable (no_bits size) = true
 is_loadable (relocs rela target entries) = false
 is_loadable (group comdat signature members) = false
 
--- the flag ALLOC, a body of bits or without, and not discarded
+-- it has the flag ALLOC, takes memory, with bits or without, and is not discarded
 abbrev pub Live : List ObjectValue → ℕ → ℕ → Type 0
 Live fs f s = HasFlag (section_in fs f s).flags SHF_ALLOC × (is_loadable (section_in fs f s).body ≡ true) × ¬ Discarded fs f s
 

@@ -38,8 +38,8 @@ abbrev pub AtSymbol : List ObjectValue → (ℕ → ℕ → Type 0) → Row Site
 AtSymbol = AtEach symbol_count
 
 -- what was found is the first rule of the list that is broken, with its first site, and None if none is broken
-abbrev pub FirstAmong : List {1} (Ruled Site) → Option (ℕ × Site) → Type 0
-FirstAmong = FirstBy IsFirstAt
+abbrev pub FirstAt : List {1} (Ruled Site) → Option (ℕ × Site) → Type 0
+FirstAt = FirstBy IsFirstAt
 
 -- Lists of sites: all that a row holds, in order.
 

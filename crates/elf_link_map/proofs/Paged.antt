@@ -19,7 +19,7 @@ use Rattle.elf_object_type.specs.Object.{ObjectValue}
 use Rattle.elf_object_type.proofs.Public.{object_rules_kept}
 use Rattle.elf_link_files.specs.declared.fault.Options.{Options}
 use Rattle.elf_link_files.specs.declared.site.Site.{Site}
-use Rattle.elf_link_files.specs.Rows.{no_common, site, site_at, FirstAmong}
+use Rattle.elf_link_files.specs.Rows.{no_common, site, site_at, FirstAt}
 use Rattle.elf_link_files.specs.Files.{object_at}
 use Rattle.elf_link_names.specs.Binds.{input_rules}
 use Rattle.elf_link_outputs.specs.Outputs.{live, part_of, raised, common_part, output_parts, placed}
@@ -90,7 +90,7 @@ raised_multiple page (p ∷ parts) x some power powers multiple =
     divides page (largest page (p ∷ parts)) x power whole le (multiple_of (largest page (p ∷ parts)) x whole multiple)
 
 module _ (opt : Options) (fs : List ObjectValue) (l : LinkPlan) (m : LinkMapValue) (is : IsLinkPlan opt fs l) (of : IsMapOf opt fs l m)
-    (clean : FirstAmong (input_rules opt fs) None) (objects : AreObjects fs) where
+    (clean : FirstAt (input_rules opt fs) None) (objects : AreObjects fs) where
   abbrev outputs : List (List Site)
   outputs = l.plan.outputs
 

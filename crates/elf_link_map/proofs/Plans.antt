@@ -11,7 +11,7 @@ use Rattle.elf_image_rules.specs.Rows.{Row, rule}
 use Rattle.elf_link_files.proofs.Public.{site_is, one_found, each_more, file_before, listed_more, listed_past, lists_same, some_site}
 use Rattle.elf_link_files.specs.FileRules.{option_rules}
 use Rattle.elf_link_files.specs.Files.{symbol_in, IsEarlier, object_at, IsCommon}
-use Rattle.elf_link_files.specs.Rows.{site_at, FirstAmong, no_common, AreEach, Lists, UpTo, name_at, site, AtEach, IsFirstAt, section_count}
+use Rattle.elf_link_files.specs.Rows.{site_at, FirstAt, no_common, AreEach, Lists, UpTo, name_at, site, AtEach, IsFirstAt, section_count}
 use Rattle.elf_link_files.specs.Rows.{symbol_count, IsLargest, align_at, commons, entries, not_weak, size_at, strong, weak}
 use Rattle.elf_link_files.specs.declared.fault.LinkFault.TheVariants.{Rule, OutOfMemory}
 use Rattle.elf_link_files.specs.declared.fault.LinkFault.{LinkFault}
@@ -138,7 +138,7 @@ one_of_addresses : (opt : Options) (fs : List ObjectValue) (a b : Option (ℕ ×
     FirstOfAddresses opt fs b → a ≡ b
 one_of_addresses opt fs a b (l, is, found) (k, are, other) =
     one_found (address_rules (link_parts fs opt l) opt.base l.target) a b found
-    (subst (λ (n : LinkPlan). FirstAmong (address_rules (link_parts fs opt n) opt.base n.target) b) (one_link_plan opt fs k l are is) other)
+    (subst (λ (n : LinkPlan). FirstAt (address_rules (link_parts fs opt n) opt.base n.target) b) (one_link_plan opt fs k l are is) other)
 
 none_some : (b : ℕ × Site) → ◌≡◌ {A = Option (ℕ × Site)} None (Some b) → ⊥
 none_some b e = cc
@@ -230,7 +230,7 @@ some_each {A} none P (suc n) each lacks =
 
 pub first_or_never : (row : Row Site) → ¬ (¬ (((p : Site) × IsFirstAt row p) ⊎ Never row))
 first_or_never row none = some_site (rule 0 row ∷ []) known where
-  known : (x : Option (ℕ × Site)) → ¬ FirstAmong (rule 0 row ∷ []) x
+  known : (x : Option (ℕ × Site)) → ¬ FirstAt (rule 0 row ∷ []) x
   known None (never, rest) = none (inr never)
   known (Some found) (inl (is, first)) = none (inl (found.1, first))
   known (Some found) (inr (never, rest)) = rest
@@ -377,12 +377,12 @@ some_plan opt fs none =
 
 pub some_link_fault : (opt : Options) (fs : List ObjectValue) → ¬ ((x : Option (ℕ × Site)) → ¬ FirstOfLink opt fs x)
 some_link_fault opt fs none = some_site (input_rules opt fs) of_inputs where
-  of_addresses : FirstAmong (input_rules opt fs) None → (l : LinkPlan) → IsLinkPlan opt fs l →
-      (x : Option (ℕ × Site)) → ¬ FirstAmong (address_rules (link_parts fs opt l) opt.base l.target) x
+  of_addresses : FirstAt (input_rules opt fs) None → (l : LinkPlan) → IsLinkPlan opt fs l →
+      (x : Option (ℕ × Site)) → ¬ FirstAt (address_rules (link_parts fs opt l) opt.base l.target) x
   of_addresses clean l is None found = none None (clean, (l, is, found))
   of_addresses clean l is (Some broken) found = none (Some broken) (inr (clean, (l, is, found)))
 
-  of_inputs : (x : Option (ℕ × Site)) → ¬ FirstAmong (input_rules opt fs) x
+  of_inputs : (x : Option (ℕ × Site)) → ¬ FirstAt (input_rules opt fs) x
   of_inputs None clean =
       some_plan opt fs (λ l is. some_site (address_rules (link_parts fs opt l) opt.base l.target) (of_addresses clean l is))
   of_inputs (Some broken) found = none (Some broken) (inl found)
@@ -406,7 +406,7 @@ placed_at opt fs p a target objects page outputs chosen entry from =
         target = entry;
         least = subst (λ (ps : List (ℕ × ℕ)). Least ps opt.base a.places) parts from.least;
       };
-      sound = subst (λ (ps : List (ℕ × ℕ)). FirstAmong (address_rules ps opt.base target) None) parts from.sound;
+      sound = subst (λ (ps : List (ℕ × ℕ)). FirstAt (address_rules ps opt.base target) None) parts from.sound;
       fits = subst (λ (ps : List (ℕ × ℕ)). EndsFit ps a.places (length ps)) parts from.fits;
       entry = subst (λ (ps : List (ℕ × ℕ)). HasValue ps opt.base target a.entry) parts from.entry;
     }
@@ -423,8 +423,8 @@ placing_fault opt fs plan target (Rule number file index entry) outputs chosen i
     )
 placing_fault opt fs plan target OutOfMemory outputs chosen is first = tt
 
-pub link_fault : (opt : Options) (fs : List ObjectValue) (fault : LinkFault) → FirstAmong (input_rules opt fs) None →
-    FirstAmong (option_rules opt fs) None →
+pub link_fault : (opt : Options) (fs : List ObjectValue) (fault : LinkFault) → FirstAt (input_rules opt fs) None →
+    FirstAt (option_rules opt fs) None →
     IsAddressingFault opt fs fault → IsLinkFault opt fs fault
 link_fault opt fs (Rule number file index entry) clean options is = inr (clean, is)
 link_fault opt fs OutOfMemory clean options is = options

@@ -12,7 +12,7 @@ use Rattle.elf_object_type.specs.Object.{ObjectValue}
 use Rattle.elf_link_files.specs.declared.site.Chosen.{Chosen}
 use Rattle.elf_link_files.specs.declared.fault.Options.{Options}
 use Rattle.elf_link_files.specs.declared.site.Site.{Site}
-use Rattle.elf_link_files.specs.Rows.{chosen_at, AreEach, Lists, name_at, site, site_at, FirstAmong, section_count, symbol_count, entries}
+use Rattle.elf_link_files.specs.Rows.{chosen_at, AreEach, Lists, name_at, site, site_at, FirstAt, section_count, symbol_count, entries}
 use Rattle.elf_link_files.specs.Files.{AreDiscardMarks, Discarded, object_at}
 use Rattle.elf_link_names.specs.declared.name_rules.Choice.{Choice}
 use Rattle.elf_link_names.specs.declared.name_rules.Choice.TheVariants.{Strong, Common, Weak, Zero}
@@ -207,8 +207,8 @@ some_placed_commons fs cs places first =
 
 -- ---- the map
 
-some_map_of : (opt : Options) (fs : List ObjectValue) (l : LinkPlan) → FirstAmong (input_rules opt fs) None → IsLinkPlan opt fs l →
-    FirstAmong (address_rules (link_parts fs opt l) opt.base l.target) None → ¬ ((m : LinkMapValue) → ¬ IsLinkMap opt fs m)
+some_map_of : (opt : Options) (fs : List ObjectValue) (l : LinkPlan) → FirstAt (input_rules opt fs) None → IsLinkPlan opt fs l →
+    FirstAt (address_rules (link_parts fs opt l) opt.base l.target) None → ¬ ((m : LinkMapValue) → ¬ IsLinkMap opt fs m)
 some_map_of opt fs l clean is sound none =
     let parts = link_parts fs opt l in
     let fits : EndsFit parts l.places (length parts) = λ k lt. elim (cases_lt (end_of parts l.places k) (2 ^ 64)) [

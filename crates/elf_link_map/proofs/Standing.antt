@@ -18,7 +18,8 @@ use Rattle.elf_link_files.specs.declared.fault.Options.{Options}
 use Rattle.elf_link_files.specs.declared.site.Chosen.{Chosen}
 use Rattle.elf_link_files.specs.declared.site.Site.{Site}
 use Rattle.elf_link_map.specs.LinkMap.{IsLinkMap, IsLinkPlan, IsMapOf, LinkMapValue, LinkPlan, link_parts}
-use Rattle.elf_link_map.specs.Standing.{BeginsAt, StandApart, size_in, IsMemberAt, MembersStand, OutputsStand, member_address, member_at}
+use Rattle.elf_link_map.specs.Standing.{BeginsAt, ArePlacedApart, size_in, IsMemberAt, MembersStand}
+use Rattle.elf_link_map.specs.Standing.{OutputsStand, member_address, member_at}
 use Rattle.elf_link_map.specs.Standing.{member_part, no_member, or_zero, output_at, output_end}
 use Rattle.elf_link_outputs.proofs.Public.{members_live, parts_long, all_flat, outputs_some, placed_once, start_next, within_all}
 use Rattle.elf_link_outputs.specs.Outputs.{live, part_of, raised, AreOutputs, common_part, flat, output_parts, parts_of, placed, is_no_bits}
@@ -171,7 +172,7 @@ has_address : (o : Option ℕ) → (o ≡ None → ⊥) → (a : ℕ) × (o ≡ 
 has_address None some = absurd (some refl)
 has_address (Some a) some = (a, refl)
 
-pub parts_apart : (opt : Options) (fs : List ObjectValue) (m : LinkMapValue) → IsLinkMap opt fs m → StandApart fs m
+pub parts_apart : (opt : Options) (fs : List ObjectValue) (m : LinkMapValue) → IsLinkMap opt fs m → ArePlacedApart fs m
 parts_apart opt fs m (l, is, of) = record {
   addressed = λ f s. (
     (λ there. has_address (cell m.addresses f s) (λ none. (of.addresses.none f s).0 none there)),
@@ -201,7 +202,7 @@ parts_apart opt fs m (l, is, of) = record {
       let end = common_ends opt fs l m k of lt in
       let fits = of.fits (length (placed l.plan) + k) (common_in_parts opt fs l m k of lt) in
       omega arith);
-  commons_behind = λ f s a k at lt. (
+  commons_after = λ f s a k at lt. (
       let (j, here) = stands opt fs l m f s a is of at in
       let before : j < length (placed l.plan) + k = (let within = here.within in omega arith) in
       let above = above_earlier (link_parts fs opt l) opt.base l.places j (length (placed l.plan) + k) is.least.fits before
@@ -484,7 +485,7 @@ module _ (opt : Options) (fs : List ObjectValue) (l : LinkPlan) (m : LinkMapValu
         let above = past j (start k) (omega arith) later there in
         let begins = (output_is k lt).address in
         omega arith);
-    commons_behind = λ j k lt k_in. (
+    commons_after = λ j k lt k_in. (
         let some = some_members j lt in
         let whole = within_all outputs j (output_in j lt) in
         let above = past j (length (placed l.plan) + k) lt (omega arith) (common_in_parts opt fs l m k of k_in) in

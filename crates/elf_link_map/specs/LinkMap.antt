@@ -7,7 +7,7 @@ use Rattle.elf_extent.specs.Extent.{Never}
 use Rattle.elf_extent.specs.Place.{EndsFit, Least}
 use Rattle.elf_link_files.specs.FileRules.{option_rules}
 use Rattle.elf_link_files.specs.Files.{AreDiscardMarks}
-use Rattle.elf_link_files.specs.Rows.{Lists, name_at, FirstAmong, entries}
+use Rattle.elf_link_files.specs.Rows.{Lists, name_at, FirstAt, entries}
 use Rattle.elf_link_files.specs.declared.fault.LinkFault.TheVariants.{Rule, OutOfMemory}
 use Rattle.elf_link_files.specs.declared.fault.LinkFault.{LinkFault}
 use Rattle.elf_link_files.specs.declared.fault.Options.{Options}
@@ -132,20 +132,20 @@ link_map_value m = record {
 -- rules 10 and 11 at the plan of the objects
 abbrev pub FirstOfAddresses : Options → List ObjectValue → Option (ℕ × Site) → Type 0
 FirstOfAddresses opt fs found =
-    (l : LinkPlan) × IsLinkPlan opt fs l × FirstAmong (address_rules (link_parts fs opt l) opt.base l.target) found
+    (l : LinkPlan) × IsLinkPlan opt fs l × FirstAt (address_rules (link_parts fs opt l) opt.base l.target) found
 
 -- the first rule of the link that is broken
 abbrev pub FirstOfLink : Options → List ObjectValue → Option (ℕ × Site) → Type 0
-FirstOfLink opt fs None = FirstAmong (input_rules opt fs) None × FirstOfAddresses opt fs None
+FirstOfLink opt fs None = FirstAt (input_rules opt fs) None × FirstOfAddresses opt fs None
 FirstOfLink opt fs (Some broken) =
-    FirstAmong (input_rules opt fs) (Some broken) ⊎ (FirstAmong (input_rules opt fs) None × FirstOfAddresses opt fs (Some broken))
+    FirstAt (input_rules opt fs) (Some broken) ⊎ (FirstAt (input_rules opt fs) None × FirstOfAddresses opt fs (Some broken))
 
 -- why objects have no link map: the first rule of 1 to 11 that is broken, with its first site; memory is taken only where rules 1 and 2 are
 -- not broken
 abbrev pub IsLinkFault : Options → List ObjectValue → LinkFault → Type 0
 IsLinkFault opt fs (Rule number file index entry) =
     FirstOfLink opt fs (Some (number, record { file = file; index = index; entry = entry }))
-IsLinkFault opt fs OutOfMemory = FirstAmong (option_rules opt fs) None
+IsLinkFault opt fs OutOfMemory = FirstAt (option_rules opt fs) None
 
 -- these are the only answers: no other map is the link map of these files and options, and no other rule or site the first that is broken
 abbrev pub IsOnlyLinkMap : Options → List ObjectValue → LinkMapValue → Type 0
@@ -168,7 +168,7 @@ pub record IsPlacedAt (opt : Options) (fs : List ObjectValue) (a : AddressedValu
   pub objects : a.plan.objects ≡ fs
   pub page : a.plan.page ≡ opt.page
   pub plan : IsLinkPlan opt fs (plan_at a target)
-  pub sound : FirstAmong (address_rules (link_parts fs opt (plan_at a target)) opt.base target) None
+  pub sound : FirstAt (address_rules (link_parts fs opt (plan_at a target)) opt.base target) None
   pub fits : EndsFit (link_parts fs opt (plan_at a target)) a.places (length (link_parts fs opt (plan_at a target)))
   pub entry : HasValue (link_parts fs opt (plan_at a target)) opt.base target a.entry
 

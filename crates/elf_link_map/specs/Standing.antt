@@ -25,13 +25,13 @@ BeginsAt m f s a = cell m.addresses f s ≡ Some a
 
 -- exactly the live sections have an address; each ends below 2^64; of two of them one ends where the other begins, or before; and the
 -- commons are after them, one after the other, and end below 2^64 too
-pub record StandApart (fs : List ObjectValue) (m : LinkMapValue) : Type 0 where
+pub record ArePlacedApart (fs : List ObjectValue) (m : LinkMapValue) : Type 0 where
   pub addressed : (f s : ℕ) → live fs (site f s) ↔ ((a : ℕ) × BeginsAt m f s a)
   pub within : (f s a : ℕ) → BeginsAt m f s a → a + size_in fs f s < 2 ^ 64
   pub apart : (f s a g t b : ℕ) → BeginsAt m f s a → BeginsAt m g t b →
       ((f ≡ g) × (s ≡ t)) ⊎ ((a + size_in fs f s ≤ b) ⊎ (b + size_in fs g t ≤ a))
   pub commons_within : (k : ℕ) → k < length m.commons → (common_at m.commons k).address + (common_at m.commons k).size < 2 ^ 64
-  pub commons_behind : (f s a k : ℕ) → BeginsAt m f s a → k < length m.commons → a + size_in fs f s ≤ (common_at m.commons k).address
+  pub commons_after : (f s a k : ℕ) → BeginsAt m f s a → k < length m.commons → a + size_in fs f s ≤ (common_at m.commons k).address
   pub commons_apart : (j k : ℕ) → j < k → k < length m.commons →
       (common_at m.commons j).address + (common_at m.commons j).size ≤ (common_at m.commons k).address
 
@@ -91,7 +91,7 @@ pub record OutputsStand (fs : List ObjectValue) (m : LinkMapValue) : Type 0 wher
   pub once : (f s k i l j : ℕ) → IsMemberAt m f s k i → IsMemberAt m f s l j → (k ≡ l) × (i ≡ j)
   pub within : (k : ℕ) → k < length m.outputs → output_end m k < 2 ^ 64
   pub apart : (j k : ℕ) → j < k → k < length m.outputs → output_end m j ≤ (output_at m k).address
-  pub commons_behind : (j k : ℕ) → j < length m.outputs → k < length m.commons → output_end m j ≤ (common_at m.commons k).address
+  pub commons_after : (j k : ℕ) → j < length m.outputs → k < length m.commons → output_end m j ≤ (common_at m.commons k).address
 
 -- the page is a power of two, and each output and the first common begin at a multiple of it
 pub record ArePaged (m : LinkMapValue) : Type 0 where

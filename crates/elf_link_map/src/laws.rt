@@ -2,9 +2,9 @@
 ghost use Rattle.std.specs.Prelude.{◌≡◌, ℕ, List, None, Option};
 ghost use Rattle.elf_link_files.specs.declared.fault.Options.{Options};
 ghost use Rattle.elf_link_files.specs.declared.site.Site.{Site};
-ghost use Rattle.elf_link_files.specs.Rows.{FirstAmong};
+ghost use Rattle.elf_link_files.specs.Rows.{FirstAt};
 ghost use Rattle.elf_link_names.specs.Binds.{input_rules};
-ghost use Rattle.elf_link_map.specs.Standing.{StandApart, AreObjects, ArePaged, ObjectsFit, OutputsStand};
+ghost use Rattle.elf_link_map.specs.Standing.{ArePlacedApart, AreObjects, ArePaged, ObjectsFit, OutputsStand};
 ghost use Rattle.elf_link_map.specs.LinkMap.{FirstOfLink, IsLinkMap, LinkMapValue};
 ghost use Rattle.elf_object_type.specs.Object.{ObjectValue};
 
@@ -13,7 +13,7 @@ use elf_object_type::Object;
 /// In the link map of some objects a section has an address exactly if it is live, the commons are after all sections, each of these
 /// parts ends below 2^64, and no address lies in two of them.
 pub fn parts_apart()
-    ensures { (opt : Options) (fs : List ObjectValue) (m : LinkMapValue) → IsLinkMap opt fs m → StandApart fs m }
+    ensures { (opt : Options) (fs : List ObjectValue) (m : LinkMapValue) → IsLinkMap opt fs m → ArePlacedApart fs m }
 {}
 
 /// In the link map of some objects each output has members: it begins where the first of them does, they are in it one after the other, and
@@ -43,7 +43,7 @@ pub fn prove_objects(objects: &[Object<'_>])
 /// Some objects and options have one answer: that no rule of the link is broken, or the first one that is, at its first site. At most one
 /// meets the definition, and it can't be that none is: of rules 1 to 9, which are asked of the objects alone, and of all eleven.
 pub fn one_link_fault()
-    ensures some_input { (opt : Options) (fs : List ObjectValue) → ((x : Option (ℕ × Site)) → FirstAmong (input_rules opt fs) x → ⊥) → ⊥ }
+    ensures some_input { (opt : Options) (fs : List ObjectValue) → ((x : Option (ℕ × Site)) → FirstAt (input_rules opt fs) x → ⊥) → ⊥ }
     ensures some { (opt : Options) (fs : List ObjectValue) → ((x : Option (ℕ × Site)) → FirstOfLink opt fs x → ⊥) → ⊥ }
     ensures one { (opt : Options) (fs : List ObjectValue) (a b : Option (ℕ × Site)) → FirstOfLink opt fs a → FirstOfLink opt fs b → a ≡ b }
 {}

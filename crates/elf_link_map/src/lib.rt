@@ -1,5 +1,5 @@
-//! The link of relocatable ELF-64 objects (gABI chapter 4; placement is this project's profile): which sections are kept, what each name is
-//! bound to, and where everything is.
+//! The link of relocatable ELF-64 objects (gABI chapter 4; placement is this project's profile): which sections are discarded, what each
+//! name is bound to, and where everything is.
 //!
 //! [`map`] returns the [`LinkMap`] of some objects, or the first rule ([`rules`]) of the link that is broken.
 //!

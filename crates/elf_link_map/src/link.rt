@@ -9,7 +9,7 @@ ghost use Rattle.elf_link_map.specs.Entry.{HasSite, IsBoundTarget, IsEntrySymbol
 ghost use Rattle.elf_link_map.specs.LinkMap.{FirstOfLink, IsAddressedFor, IsAddressingFault, IsLinkFault, IsLinkMap, IsOnlyFault};
 ghost use Rattle.elf_link_map.specs.LinkMap.{IsOnlyFirst, IsOnlyLinkMap};
 ghost use Rattle.elf_link_map.specs.Naming.{AreBindingIndexes};
-ghost use Rattle.elf_link_map.specs.Standing.{StandApart, ArePaged, OutputsStand};
+ghost use Rattle.elf_link_map.specs.Standing.{ArePlacedApart, ArePaged, OutputsStand};
 
 use crate::bindings::{IndexedMap, all_bindings};
 use crate::laws::prove_objects;
@@ -221,7 +221,7 @@ pub fn map<'a, S: BuildHasher + Drop>(
 ) -> Result<LinkMap<'a>, LinkFault>
     ensures sound { OnOk result (FirstOfLink options.now objects.now None) }
     ensures map { IfOk result (λ m. IsLinkMap options.now objects.now m) }
-    ensures apart { IfOk result (StandApart objects.now) }
+    ensures apart { IfOk result (ArePlacedApart objects.now) }
     ensures outputs { IfOk result (OutputsStand objects.now) }
     ensures paged { IfOk result ArePaged }
     ensures err { IfErr result (IsLinkFault options.now objects.now) }

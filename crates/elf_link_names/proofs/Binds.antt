@@ -6,7 +6,7 @@ use Rattle.elf_field.specs.Abi.{STB_GLOBAL, STB_LOCAL, STB_WEAK}
 use Rattle.elf_image_rules.specs.Rows.{Row}
 use Rattle.elf_link_files.proofs.Public.{site_is, one_first, one_site_list, once_of, one_each}
 use Rattle.elf_link_files.specs.Files.{symbol_in, IsDefinedAt, IsUndefinedAt, is_common}
-use Rattle.elf_link_files.specs.Rows.{FirstAmong, Lists, site, site_at, name_at, no_common, IsFirstAt, IsLargest, align_at, commons}
+use Rattle.elf_link_files.specs.Rows.{FirstAt, Lists, site, site_at, name_at, no_common, IsFirstAt, IsLargest, align_at, commons}
 use Rattle.elf_link_files.specs.Rows.{size_at, strong, weak}
 use Rattle.elf_link_files.specs.declared.fault.Options.{Options}
 use Rattle.elf_link_files.specs.declared.site.Chosen.{Chosen}
@@ -41,7 +41,7 @@ no_other_place fs f (In s) defined common undefined = defined undefined
 global : (n : ℕ) → n ≢ STB_LOCAL → n ≢ STB_WEAK → (STB_WEAK < n → ⊥) → n ≡ STB_GLOBAL
 global n local weak above = elim (cases_lt STB_WEAK n) [ inl past ↦ absurd (above past) | inr below ↦ omega arith ]
 
-pub all_bound : (opt : Options) (fs : List ObjectValue) → FirstAmong (input_rules opt fs) None → AllBound fs
+pub all_bound : (opt : Options) (fs : List ObjectValue) → FirstAt (input_rules opt fs) None → AllBound fs
 all_bound opt fs clean name p there (strong, common, weak, inl nothing) = nothing p there
 all_bound opt fs clean name p there (strong, common, weak, inr (q, (file, index, (is, not_weak), entry))) =
     let bad_symbol = clean.1.1.1.1.1.0 in

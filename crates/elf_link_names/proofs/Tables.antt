@@ -111,7 +111,7 @@ pub not_in_map : (slots : List Slot) (es : List Entry) (more : List ℕ → Opti
 not_in_map slots es more tables q at (few, (s, below, is, free, taken, none)) = said (more q) refl where
   said : (m : Option ℕ) → more q ≡ m → more q ≡ None
   said None same = same
-  said (Some p) same = (let some = tables.behind few q p same s below in absurd (omega arith))
+  said (Some p) same = (let some = tables.overflow few q p same s below in absurd (omega arith))
 
 -- ---- a name that finds a free slot takes it
 
@@ -241,7 +241,7 @@ module _ (slots : List Slot) (es : List Entry) (more : List ℕ → Option ℕ) 
               cc
               )
         ];
-        behind = λ few q p is. still_taken q MOST_STEPS (tables.behind last q p is);
+        overflow = λ few q p is. still_taken q MOST_STEPS (tables.overflow last q p is);
       }
 
 -- ---- where names are then
@@ -309,8 +309,8 @@ tables_in_map slots es old now there n next tables none taken placed = record {
     | inl before ↦ tables.apart q p k before lt named
     | inr same ↦ none k lt (named ∙ sym same)
   ];
-  behind = λ few q p is. elim (old_or_placed old now there n q next p placed is) [
-    | inl before ↦ tables.behind few q p before
+  overflow = λ few q p is. elim (old_or_placed old now there n q next p placed is) [
+    | inl before ↦ tables.overflow few q p before
     | inr same ↦ subst (λ (m : List ℕ). AreSlotsTaken slots (home slots m) MOST_STEPS) same (taken few)
   ];
 }
@@ -323,7 +323,7 @@ tables_same slots es old now tables same = record {
   found = tables.found;
   once = tables.once;
   apart = λ q p k is lt. tables.apart q p k (sym (same q) ∙ is) lt;
-  behind = λ few q p is. tables.behind few q p (sym (same q) ∙ is);
+  overflow = λ few q p is. tables.overflow few q p (sym (same q) ∙ is);
 }
 
 -- Lookups of a block, symbol by symbol: each step of a loop writes one item, and those that it wrote before stay.

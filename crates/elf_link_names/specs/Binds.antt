@@ -6,7 +6,7 @@ use Rattle.elf_field.specs.Abi.{STB_GLOBAL}
 use Rattle.elf_image_rules.specs.Rows.{Row, Ruled, rule}
 use Rattle.elf_link_files.specs.FileRules.{link_section_rules, link_symbol_rules, option_rules}
 use Rattle.elf_link_files.specs.Files.{symbol_in, IsCommon, IsEntry, IsStrong, IsEarlier, object_at, IsUndefinedAt, Live}
-use Rattle.elf_link_files.specs.Rows.{AtSymbol, IsFirstAt, FirstAmong, AtSection, site, strong, weak, commons, entries, not_weak, size_at}
+use Rattle.elf_link_files.specs.Rows.{AtSymbol, IsFirstAt, FirstAt, AtSection, site, strong, weak, commons, entries, not_weak, size_at}
 use Rattle.elf_link_files.specs.Rows.{align_at, IsLargest}
 use Rattle.elf_link_files.specs.declared.fault.LinkFault.TheVariants.{Rule, OutOfMemory}
 use Rattle.elf_link_files.specs.declared.fault.LinkFault.{LinkFault}
@@ -86,8 +86,8 @@ input_rules opt fs = option_rules opt fs ++ (link_section_rules fs ++ (link_symb
 -- the first of them that is broken; memory is taken only where rules 1 and 2 are not broken
 abbrev pub IsInputFault : Options → List ObjectValue → LinkFault → Type 0
 IsInputFault opt fs (Rule number file index entry) =
-    FirstAmong (input_rules opt fs) (Some (number, record { file = file; index = index; entry = entry }))
-IsInputFault opt fs OutOfMemory = FirstAmong (option_rules opt fs) None
+    FirstAt (input_rules opt fs) (Some (number, record { file = file; index = index; entry = entry }))
+IsInputFault opt fs OutOfMemory = FirstAt (option_rules opt fs) None
 
 -- What is listed: live sections, chosen commons and first entries.
 

@@ -147,7 +147,7 @@ pub record AreTables (slots : List Slot) (entries : List Entry) (more : List ℕ
   pub found : (k : ℕ) → k < length entries → IsFound slots (entry_name entries k) (k + 1)
   pub once : (j k : ℕ) → j < length entries → k < length entries → entry_name entries j ≡ entry_name entries k → j ≡ k
   pub apart : (q : List ℕ) (p k : ℕ) → more q ≡ Some p → k < length entries → entry_name entries k ≢ q
-  pub behind : length entries < MOST_NAMES → (q : List ℕ) (p : ℕ) → more q ≡ Some p → AreSlotsTaken slots (home slots q) MOST_STEPS
+  pub overflow : length entries < MOST_NAMES → (q : List ℕ) (p : ℕ) → more q ≡ Some p → AreSlotsTaken slots (home slots q) MOST_STEPS
 
 abbrev pub HasNameTables : Inside → Type 0
 HasNameTables p = AreTables p.slots.items p.entries.items (position_by p.more)

@@ -4,7 +4,7 @@
 //! [`validate`](validate::validate) returns the [`Resolution`] of the names, or the first of those rules that is broken. Begin there: it
 //! asks rules 1 to 7, makes one pass over all symbols (`known_names`), and asks rules 8 and 9 of the names (`name_rules`). The position of
 //! a name among those that are known is found by a [`NameIndex`]: a table by hash, and an ordered map for the few whose places in the table
-//! are taken. It knows nothing of ELF.
+//! are taken. The index knows nothing of ELF.
 //!
 //! ```
 //! let mut index = NameIndex::new(alloc, 2)?;

@@ -4,7 +4,7 @@ ghost use Rattle.elf_link_names.specs.KnownNames.{Makes, SaysUnbound, SaysEarlie
 ghost use Rattle.elf_link_files.specs.Files.{IsEarlier};
 ghost use Rattle.elf_extent.specs.Extent.{Never};
 ghost use Rattle.elf_image_rules.specs.Rows.{fault_of};
-ghost use Rattle.elf_link_files.specs.Rows.{AtSymbol, FirstAmong, IsFirstAt};
+ghost use Rattle.elf_link_files.specs.Rows.{AtSymbol, FirstAt, IsFirstAt};
 ghost use Rattle.elf_link_names.specs.Binds.{BreaksName, HasNoName, HasTwoDefinitions, IsFirstName, IsUndefinedName, link_name_rules};
 
 use crate::name_table::{NameTable, NamedSymbol};
@@ -154,7 +154,7 @@ impl<'l, 'a> NameTable<'l, 'a> {
 
     /// Rules 8 and 9. What is known of a name is read by its index.
     pub(crate) fn validate_names(&self) -> Result<(), Broken<Site>>
-        ensures { FirstAmong (link_name_rules self.now) (fault_of result) }
+        ensures { FirstAt (link_name_rules self.now) (fault_of result) }
     {
         if let Some(site) = self.first_name(NameRule::TwoDefinitions) {
             return Err(Broken::new(TWO_DEFINITIONS, site));

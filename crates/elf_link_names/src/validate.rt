@@ -3,7 +3,7 @@ ghost use Rattle.std.specs.Prelude.{◌↔◌, ◌<◌, IsTrue, MatchOption, ◌
 ghost use Rattle.elf_link_files.specs.FileRules.{AreBadOptions, IsMismatch, link_section_rules, link_symbol_rules, mismatch, option_rules};
 ghost use Rattle.elf_extent.specs.Extent.{Never};
 ghost use Rattle.elf_image_rules.specs.Rows.{fault_of};
-ghost use Rattle.elf_link_files.specs.Rows.{FirstAmong, IsFirstAt};
+ghost use Rattle.elf_link_files.specs.Rows.{FirstAt, IsFirstAt};
 ghost use Rattle.elf_link_names.specs.Binds.{IsInputFault, input_rules};
 
 use crate::name_table::NameTable;
@@ -48,7 +48,7 @@ pub(crate) fn validate_options(
     options: &Options<'_>,
     objects: &[Object<'_>],
 ) -> Result<(), Broken<Site>>
-    ensures { FirstAmong (option_rules options.now objects.now) (fault_of result) }
+    ensures { FirstAt (option_rules options.now objects.now) (fault_of result) }
 {
     if are_bad_options(options) {
         return Err(Broken::new(BAD_OPTIONS, site_in(0, 0)));
@@ -61,7 +61,7 @@ pub(crate) fn validate_options(
 
 /// Rules 3 to 5: the sections.
 pub(crate) fn validate_sections(inputs: &Inputs<'_, '_>) -> Result<(), Broken<Site>>
-    ensures { FirstAmong (link_section_rules inputs.now) (fault_of result) }
+    ensures { FirstAt (link_section_rules inputs.now) (fault_of result) }
 {
     if let Some(site) = inputs.first_site(SiteTest::Tls) {
         return Err(Broken::new(TLS, site));
@@ -77,7 +77,7 @@ pub(crate) fn validate_sections(inputs: &Inputs<'_, '_>) -> Result<(), Broken<Si
 
 /// Rules 6 and 7: the symbols by themselves.
 pub(crate) fn validate_symbols(inputs: &Inputs<'_, '_>) -> Result<(), Broken<Site>>
-    ensures { FirstAmong (link_symbol_rules inputs.now) (fault_of result) }
+    ensures { FirstAt (link_symbol_rules inputs.now) (fault_of result) }
 {
     if let Some(site) = inputs.first_site(SiteTest::BadSymbol) {
         return Err(Broken::new(BAD_SYMBOL, site));
@@ -96,9 +96,9 @@ fn validated_inputs<'l, 'a>(
     objects: &'l [Object<'a>],
     options: &Options<'_>,
 ) -> Result<Inputs<'l, 'a>, LinkFault>
-    ensures options { OnOk result (FirstAmong (option_rules options.now objects.entry.now) None) }
-    ensures sections { OnOk result (FirstAmong (link_section_rules objects.entry.now) None) }
-    ensures symbols { OnOk result (FirstAmong (link_symbol_rules objects.entry.now) None) }
+    ensures options { OnOk result (FirstAt (option_rules options.now objects.entry.now) None) }
+    ensures sections { OnOk result (FirstAt (link_section_rules objects.entry.now) None) }
+    ensures symbols { OnOk result (FirstAt (link_symbol_rules objects.entry.now) None) }
     ensures inputs { IfOk result (λ inputs. inputs ≡ objects.entry.now) }
     ensures err { IfErr result (IsInputFault options.now objects.entry.now) }
 {
@@ -117,8 +117,8 @@ pub fn validate<'l, 'a>(
     objects: &'l [Object<'a>],
     options: &Options<'_>,
 ) -> Result<Resolution<'l, 'a>, LinkFault>
-    ensures sound { OnOk result (FirstAmong (input_rules options.now objects.entry.now) None) }
-    ensures options { OnOk result (FirstAmong (option_rules options.now objects.entry.now) None) }
+    ensures sound { OnOk result (FirstAt (input_rules options.now objects.entry.now) None) }
+    ensures options { OnOk result (FirstAt (option_rules options.now objects.entry.now) None) }
     ensures objects { IfOk result (λ resolution. resolution.objects ≡ objects.entry.now) }
     ensures err { IfErr result (IsInputFault options.now objects.entry.now) }
 {

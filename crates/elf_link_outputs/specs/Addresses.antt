@@ -3,7 +3,7 @@
 use Rattle.std.specs.Prelude.{◌≡◌, ℕ, ◌+◌, ◌^◌, ◌<◌, ◌≤◌, Option, None, Some, List, [], ◌∷◌, ◌++◌, drop, length, slice_index}
 use Rattle.elf_extent.specs.Place.{Least, end_of, EndsFit}
 use Rattle.elf_image_rules.specs.Rows.{Row, Ruled, rule}
-use Rattle.elf_link_files.specs.Rows.{Once, FirstAmong}
+use Rattle.elf_link_files.specs.Rows.{Once, FirstAt}
 use Rattle.elf_link_files.specs.declared.fault.LinkFault.TheVariants.{Rule, OutOfMemory}
 use Rattle.elf_link_files.specs.declared.fault.LinkFault.{LinkFault}
 use Rattle.elf_link_files.specs.declared.site.Site.{Site}
@@ -65,15 +65,15 @@ IsCursor parts from i cursor =
 -- the first of rules 10 and 11 that is broken; out of memory is reported only where none is broken
 abbrev pub IsAddressFault : List (ℕ × ℕ) → ℕ → Target → LinkFault → Type 0
 IsAddressFault parts base target (Rule number file index entry) =
-    FirstAmong (address_rules parts base target) (Some (number, record { file = file; index = index; entry = entry }))
-IsAddressFault parts base target OutOfMemory = FirstAmong (address_rules parts base target) None
+    FirstAt (address_rules parts base target) (Some (number, record { file = file; index = index; entry = entry }))
+IsAddressFault parts base target OutOfMemory = FirstAt (address_rules parts base target) None
 
 -- A plan at its least addresses.
 
 -- neither rule 10 nor 11 is broken: the parts have their least places from `base`, end there below 2^64, and the entry symbol has its value
 pub record IsAddressedFrom (p : PlanValue) (base : ℕ) (target : Target) (a : AddressedValue) : Type 0 where
   pub plan : a.plan ≡ p
-  pub sound : FirstAmong (address_rules (plan_parts a.plan) base target) None
+  pub sound : FirstAt (address_rules (plan_parts a.plan) base target) None
   pub least : Least (plan_parts a.plan) base a.places
   pub fits : EndsFit (plan_parts a.plan) a.places (length (plan_parts a.plan))
   pub entry : HasValue (plan_parts a.plan) base target a.entry

@@ -3,7 +3,7 @@ ghost use Rattle.std.specs.Prelude.{◌≡◌, ◌<◌, ◌≤◌, [], IfOk, get
 ghost use Rattle.elf_link_outputs.specs.Placed.{AreAddresses, AreEmptyRows, AreFilled, AreLive, with_cell, ArePlacedCommons};
 ghost use Rattle.elf_link_outputs.specs.Placed.{ArePlacedOutputs, common_value, output_value};
 ghost use Rattle.elf_extent.specs.Place.{EndsFit, Least};
-ghost use Rattle.elf_link_files.specs.Rows.{FirstAmong};
+ghost use Rattle.elf_link_files.specs.Rows.{FirstAt};
 ghost use Rattle.elf_link_outputs.specs.Addresses.{HasNoValue, HasValue, IsTarget, StartsAt, StartsPast, address_rules, IsAddressFault};
 ghost use Rattle.elf_link_outputs.specs.Addresses.{IsTargetBelow, IsAddressedFrom};
 ghost use Rattle.elf_link_outputs.specs.Outputs.{placed, plan_parts};
@@ -131,7 +131,7 @@ pub(crate) fn addresses(
     target: Target,
 ) -> Result<Places, LinkFault>
     requires { IsTarget parts.now target }
-    ensures sound { OnOk result (FirstAmong (address_rules parts.now base target) None) }
+    ensures sound { OnOk result (FirstAt (address_rules parts.now base target) None) }
     ensures least { IfOk result (λ placed. Least parts.now base placed.places.items) }
     ensures fits { IfOk result (λ placed. EndsFit parts.now placed.places.items (length parts.now)) }
     ensures entry { IfOk result (λ placed. HasValue parts.now base target placed.entry) }

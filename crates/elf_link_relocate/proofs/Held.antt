@@ -9,7 +9,7 @@ use Rattle.elf_link_field.specs.declared.rule.Width.TheVariants.{W1, W2, W4, W8}
 use Rattle.elf_link_field.specs.declared.rule.Width.{Width}
 use Rattle.elf_link_files.proofs.Public.{one_found}
 use Rattle.elf_link_files.specs.Files.{section_in}
-use Rattle.elf_link_files.specs.Rows.{FirstAmong}
+use Rattle.elf_link_files.specs.Rows.{FirstAt}
 use Rattle.elf_link_files.specs.declared.fault.LinkFault.TheVariants.{OutOfMemory, Rule}
 use Rattle.elf_link_files.specs.declared.fault.LinkFault.{LinkFault}
 use Rattle.elf_link_files.specs.declared.site.Site.{Site}
@@ -18,7 +18,8 @@ use Rattle.elf_link_map.specs.Standing.{address_in, or_zero}
 use Rattle.elf_link_relocate.proofs.Memories.{apart_of, live_in, one_byte, same_place, some_number, within_of}
 use Rattle.elf_link_relocate.specs.Fields.{HasField, IsRelocationFault, IsWithin, addend_of, applied_entry_rules, content_of, field_address}
 use Rattle.elf_link_relocate.specs.Fields.{field_start, target_at, value_at}
-use Rattle.elf_link_relocate.specs.Linked.{AreBytesOf, FieldsHoldNumbers, HasLiveBits, HoldsNumber, IsLinked, IsMapButOptions, IsMemory}
+use Rattle.elf_link_relocate.specs.Linked.{AreBytesOf, FieldsHoldNumbers, HasLiveBits, HoldsNumber}
+use Rattle.elf_link_relocate.specs.Linked.{IsLinked, IsSoundMapButOptions, IsMemory}
 use Rattle.elf_link_relocate.specs.Linked.{IsOnlyLinked, LinkedValue, bytes_at, number_byte}
 use Rattle.elf_object_type.specs.Object.{BodyValue, ObjectValue, bits, group, is_bits, no_bits, relocs}
 
@@ -45,7 +46,7 @@ same_linked l k map objects rules copies =
 
 -- ---- every field holds its number
 
-module _ (fs : List ObjectValue) (m : LinkMapValue) (rules : List RelocRule) (l : LinkedValue) (is : IsMapButOptions fs m)
+module _ (fs : List ObjectValue) (m : LinkMapValue) (rules : List RelocRule) (l : LinkedValue) (is : IsSoundMapButOptions fs m)
     (linked : IsLinked fs m rules l) where
   fits : (p : Site) (r : RelocRule) → HasField fs rules p r → IsWithin fs p r
   fits = within_of fs m rules (apart_of fs m is) linked.sound.1.1.0 linked.sound.1.1.1.0
@@ -84,8 +85,8 @@ module _ (fs : List ObjectValue) (m : LinkMapValue) (rules : List RelocRule) (l 
 
 -- ---- no others
 
-module _ (fs : List ObjectValue) (m : LinkMapValue) (rules : List RelocRule) (is : IsMapButOptions fs m) where
-  one_copy : (f s : ℕ) (x y : Option (List ℕ)) → FirstAmong (applied_entry_rules fs m rules) None →
+module _ (fs : List ObjectValue) (m : LinkMapValue) (rules : List RelocRule) (is : IsSoundMapButOptions fs m) where
+  one_copy : (f s : ℕ) (x y : Option (List ℕ)) → FirstAt (applied_entry_rules fs m rules) None →
       MatchOption x (¬ HasLiveBits fs f s) (AreBytesOf fs m rules f s) → MatchOption y (¬ HasLiveBits fs f s) (AreBytesOf fs m rules f s) →
       x ≡ y
   one_copy f s None None clean never none = refl
@@ -111,12 +112,12 @@ module _ (fs : List ObjectValue) (m : LinkMapValue) (rules : List RelocRule) (is
       (λ s s_lt. one_copy f s (bytes_at k f s) (bytes_at l f s) first.sound (second.bytes f s) (first.bytes f s)))))
 
 pub only_first : (fs : List ObjectValue) (m : LinkMapValue) (rules : List RelocRule) (found : Option (ℕ × Site)) →
-    FirstAmong (applied_entry_rules fs m rules) found → IsOnlyFirst (FirstAmong (applied_entry_rules fs m rules)) found
+    FirstAt (applied_entry_rules fs m rules) found → IsOnlyFirst (FirstAt (applied_entry_rules fs m rules)) found
 only_first fs m rules found is x there = one_found (applied_entry_rules fs m rules) x found there is
 
 pub only_fault : (fs : List ObjectValue) (m : LinkMapValue) (rules : List RelocRule) (fault : LinkFault) →
     IsRelocationFault fs m rules fault →
-    IsOnlyFault (FirstAmong (applied_entry_rules fs m rules)) fault
+    IsOnlyFault (FirstAt (applied_entry_rules fs m rules)) fault
 only_fault fs m rules (Rule number file index entry) is =
     only_first fs m rules (Some (number, record { file = file; index = index; entry = entry })) is
 only_fault fs m rules OutOfMemory is = tt

@@ -11,7 +11,7 @@ use Rattle.elf_link_relocate.specs.Loads.{has_memory, load_at, load_in, loads, n
 use Rattle.elf_link_relocate.specs.declared.load.Load.{Load}
 use Rattle.elf_field.specs.Abi.{PF_W, PF_X, SHF_EXECINSTR, SHF_WRITE}
 use Rattle.elf_link_map.specs.LinkMap.{LinkMapValue}
-use Rattle.elf_link_map.specs.Standing.{output_at, StandApart, ArePaged, OutputsStand}
+use Rattle.elf_link_map.specs.Standing.{output_at, ArePlacedApart, ArePaged, OutputsStand}
 use Rattle.elf_link_outputs.specs.Placed.{CommonValue, common_at}
 use Rattle.elf_object_type.specs.Object.{ObjectValue}
 
@@ -193,7 +193,7 @@ commons_some k [] some = absurd (omega arith)
 commons_some k (c ∷ cs) some = omega arith
 
 -- a common begins where an earlier one begins, or after that
-pub commons_ascend : (fs : List ObjectValue) (m : LinkMapValue) (j k : ℕ) → StandApart fs m → j ≤ k → k < length m.commons →
+pub commons_ascend : (fs : List ObjectValue) (m : LinkMapValue) (j k : ℕ) → ArePlacedApart fs m → j ≤ k → k < length m.commons →
     (common_at m.commons j).address ≤ (common_at m.commons k).address
 commons_ascend fs m j k stand le lt = elim (cases_lt j k) [
   | inl before ↦ (let apart = stand.commons_apart j k before lt in omega arith)
@@ -201,7 +201,7 @@ commons_ascend fs m j k stand le lt = elim (cases_lt j k) [
 ]
 
 -- and ends where a later one ends, or before
-pub commons_end : (fs : List ObjectValue) (m : LinkMapValue) (j k : ℕ) → StandApart fs m → j ≤ k → k < length m.commons →
+pub commons_end : (fs : List ObjectValue) (m : LinkMapValue) (j k : ℕ) → ArePlacedApart fs m → j ≤ k → k < length m.commons →
     (common_at m.commons j).address + (common_at m.commons j).size ≤ (common_at m.commons k).address + (common_at m.commons k).size
 commons_end fs m j k stand le lt = elim (cases_lt j k) [
   | inl before ↦ (let apart = stand.commons_apart j k before lt in omega arith)
@@ -223,7 +223,7 @@ at_output m k lt = rw (lt-ltb k (length m.outputs) lt) refl
 pub at_commons : (m : LinkMapValue) (k : ℕ) → length m.outputs ≤ k → load_at m k ≡ commons_load k m.commons
 at_commons m k le = rw (le-ltb k (length m.outputs) le) refl
 
-module _ (fs : List ObjectValue) (m : LinkMapValue) (stand : StandApart fs m) (outputs : OutputsStand fs m) where
+module _ (fs : List ObjectValue) (m : LinkMapValue) (stand : ArePlacedApart fs m) (outputs : OutputsStand fs m) where
   -- of what takes memory, an output begins where each output before it ends, or after that, and so do the commons
   loads_ascend_at : (k l : ℕ) → k < l → l ≤ length m.outputs → 0 < (load_at m l).size → (load_at m k).address ≤ (load_at m l).address
   loads_ascend_at k l before le some =
@@ -236,7 +236,7 @@ module _ (fs : List ObjectValue) (m : LinkMapValue) (stand : StandApart fs m) (o
         | inr ge ↦
             (let there = at_commons m l ge in
             let past =
-            outputs.commons_behind k 0 (omega arith) (commons_some l m.commons (subst (λ (load : Load). 0 < load.size) there some)) in
+            outputs.commons_after k 0 (omega arith) (commons_some l m.commons (subst (λ (load : Load). 0 < load.size) there some)) in
             rw (here, there) (omega arith))
       ]
 

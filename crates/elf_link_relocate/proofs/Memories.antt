@@ -12,12 +12,12 @@ use Rattle.elf_link_field.specs.declared.rule.Form.{Form}
 use Rattle.elf_link_field.specs.declared.rule.RelocRule.{RelocRule}
 use Rattle.elf_link_files.proofs.Public.{same_bool}
 use Rattle.elf_link_files.specs.Files.{object_at, section_in, Live, AreDiscardMarks, Discarded, mark}
-use Rattle.elf_link_files.specs.Rows.{site, FirstAmong}
+use Rattle.elf_link_files.specs.Rows.{site, FirstAt}
 use Rattle.elf_link_files.specs.declared.fault.Options.{Options}
 use Rattle.elf_link_files.specs.declared.site.Site.{Site}
 use Rattle.elf_link_map.proofs.Public.{outputs_stand, parts_apart}
 use Rattle.elf_link_map.specs.LinkMap.{LinkMapValue, FirstOfLink, IsLinkMap, with_options}
-use Rattle.elf_link_map.specs.Standing.{BeginsAt, StandApart, address_in, or_zero, MembersStand, OutputsStand, size_in}
+use Rattle.elf_link_map.specs.Standing.{BeginsAt, ArePlacedApart, address_in, or_zero, MembersStand, OutputsStand, size_in}
 use Rattle.elf_link_outputs.specs.Outputs.{live, memory_size}
 use Rattle.elf_link_outputs.specs.Placed.{cell, OutputValue}
 use Rattle.elf_link_outputs.specs.declared.addresses.Target.TheVariants.{Fixed}
@@ -25,8 +25,8 @@ use Rattle.elf_link_relocate.proofs.Collected.{position, one_rule, ordered, rule
 use Rattle.elf_link_relocate.specs.Fields.{target_at, HasField, HasOffset, IsWithin, content_of, field_start, addend_of, field_address}
 use Rattle.elf_link_relocate.specs.Fields.{applied_entry_rules, value_at, entry_at, content_in, number_at, field_out_of_range}
 use Rattle.elf_link_relocate.specs.Fields.{fields_overlap, entries_of, field_end, unplaced}
-use Rattle.elf_link_relocate.specs.Linked.{item, AreBytesOf, HasLiveBits, IsLinked, HasFieldAt, IsFieldByte, IsMemory, IsMapButOptions}
-use Rattle.elf_link_relocate.specs.Linked.{IsMapOfSome, IsSoundMap, IsContentByte, number_byte}
+use Rattle.elf_link_relocate.specs.Linked.{item, AreBytesOf, HasLiveBits, IsLinked, HasFieldAt, IsFieldByte, IsMemory, IsSoundMapButOptions}
+use Rattle.elf_link_relocate.specs.Linked.{IsSoundMap, HasPlacedSections, IsContentByte, number_byte}
 use Rattle.elf_link_relocate.specs.Passes.{field_at, AreValidated, IsCovered, IsFieldIn, AreRelocated, IsRelocated, entry_site}
 use Rattle.elf_link_relocate.specs.declared.field.Field.{Field}
 use Rattle.elf_object_type.specs.Object.{BodyValue, bits, no_bits, relocs, group, ObjectValue, SectionValue, no_section, HasFlag}
@@ -68,7 +68,7 @@ same_copy : (a b : List ℕ) → Some a ≡ Some b → a ≡ b
 same_copy a b e = cc
 
 module _ (fs : List ObjectValue) (m : LinkMapValue) (rules : List RelocRule) (ds : List Field) (are : AreValidated fs m rules ds)
-    (stand : StandApart fs m) where
+    (stand : ArePlacedApart fs m) where
   -- whether one of the first n fields has a byte
   covered_or : (n f s x : ℕ) → IsCovered fs ds n f s x ⊎ (IsCovered fs ds n f s x → ⊥)
   covered_or zero f s x = inr (λ (j, lt, at, has). absurd (omega arith))
@@ -182,7 +182,7 @@ module _ (fs : List ObjectValue) (m : LinkMapValue) (rules : List RelocRule) (ds
       (subst (λ (b : List ℕ). IsRelocated fs m ds (length ds) f s b) (same_copy old after (sym its ∙ at)) relocated)
 
   pub linked_of : (rows : List (List (Option (List ℕ)))) → AreRelocated fs m ds (length ds) rows →
-      FirstAmong (applied_entry_rules fs m rules) None →
+      FirstAt (applied_entry_rules fs m rules) None →
       IsLinked fs m rules (record { map = m; objects = fs; rules = rules; copies = rows })
   linked_of rows is sound = record {
     sound = sound;
@@ -197,14 +197,14 @@ module _ (fs : List ObjectValue) (m : LinkMapValue) (rules : List RelocRule) (ds
 -- And it is a map for options that name no entry symbol: the same plan and places, with the value 0.
 
 -- what says nothing of base, page and entry goes over from a map that has others
-apart_from : (fs : List ObjectValue) (m : LinkMapValue) (base page entry : ℕ) → StandApart fs (with_options m base page entry) →
-    StandApart fs m
+apart_from : (fs : List ObjectValue) (m : LinkMapValue) (base page entry : ℕ) → ArePlacedApart fs (with_options m base page entry) →
+    ArePlacedApart fs m
 apart_from fs m base page entry is = record {
   addressed = is.addressed;
   within = is.within;
   apart = is.apart;
   commons_within = is.commons_within;
-  commons_behind = is.commons_behind;
+  commons_after = is.commons_after;
   commons_apart = is.commons_apart;
 }
 
@@ -229,29 +229,29 @@ outputs_from fs m base page entry is = record {
   once = is.once;
   within = is.within;
   apart = is.apart;
-  commons_behind = is.commons_behind;
+  commons_after = is.commons_after;
 }
 
-pub apart_of : (fs : List ObjectValue) (m : LinkMapValue) → IsMapButOptions fs m → StandApart fs m
+pub apart_of : (fs : List ObjectValue) (m : LinkMapValue) → IsSoundMapButOptions fs m → ArePlacedApart fs m
 apart_of fs m (base, page, entry, (opt, is, clean)) =
     apart_from fs m base page entry (parts_apart opt fs (with_options m base page entry) is)
 
-pub outputs_of : (fs : List ObjectValue) (m : LinkMapValue) → IsMapButOptions fs m → OutputsStand fs m
+pub outputs_of : (fs : List ObjectValue) (m : LinkMapValue) → IsSoundMapButOptions fs m → OutputsStand fs m
 outputs_of fs m (base, page, entry, (opt, is, clean)) =
     outputs_from fs m base page entry (outputs_stand opt fs (with_options m base page entry) is)
 
-pub sound_of : (fs : List ObjectValue) (m : LinkMapValue) → IsMapButOptions fs m → IsSoundMap fs m
+pub sound_of : (fs : List ObjectValue) (m : LinkMapValue) → IsSoundMapButOptions fs m → HasPlacedSections fs m
 sound_of fs m (base, page, entry, (opt, (l, placed, is), clean)) = record {
   discarded = is.discarded;
   places = apart_of fs m (base, page, entry, (opt, (l, placed, is), clean));
 }
 
 -- the map of some objects is one whatever its base, page and entry are
-pub any_options : (fs : List ObjectValue) (m : LinkMapValue) → IsMapOfSome fs m → IsMapButOptions fs m
+pub any_options : (fs : List ObjectValue) (m : LinkMapValue) → IsSoundMap fs m → IsSoundMapButOptions fs m
 any_options fs m is = (m.base, m.page, m.entry, is)
 
 -- such a map is the one for options that name no entry symbol too
-pub without_entry : (fs : List ObjectValue) (m : LinkMapValue) → IsMapButOptions fs m →
+pub without_entry : (fs : List ObjectValue) (m : LinkMapValue) → IsSoundMapButOptions fs m →
     (opt : Options) × (opt.entry ≡ None) × IsLinkMap opt fs (with_options m opt.base opt.page 0) × FirstOfLink opt fs None
 without_entry fs m (base, page, entry, (opt, (l, placed, is), (rules, (k, planned, (named, (fits, nothing)))))) =
     let none = record opt { entry = None } in (
@@ -293,7 +293,7 @@ same_place a b e = cc
 same_value : (a b : ℤ) → Some a ≡ Some b → a ≡ b
 same_value a b e = cc
 
-module _ (fs : List ObjectValue) (m : LinkMapValue) (rules : List RelocRule) (stand : StandApart fs m)
+module _ (fs : List ObjectValue) (m : LinkMapValue) (rules : List RelocRule) (stand : ArePlacedApart fs m)
     (within : Never (field_out_of_range fs rules)) (apart : Never (fields_overlap fs rules)) where
   -- an address is in one section
   pub one_section : (f s a k g t b i : ℕ) → BeginsAt m f s a → BeginsAt m g t b → k < size_in fs f s → i < size_in fs g t → a + k ≡ b + i →
@@ -375,8 +375,8 @@ module _ (fs : List ObjectValue) (m : LinkMapValue) (rules : List RelocRule) (st
   one_of x v w (inr (none, inr (outside, area, zero_is))) (inr (never, inl (f, s, k, at, byte))) = absurd (outside (f, s, k, at))
   one_of x v w (inr (none, inr (outside, area, zero_is))) (inr (never, inr (beyond, around, again))) = zero_is ∙ sym again
 
-pub one_byte : (fs : List ObjectValue) (m : LinkMapValue) (rules : List RelocRule) → IsMapButOptions fs m →
-    FirstAmong (applied_entry_rules fs m rules) None →
+pub one_byte : (fs : List ObjectValue) (m : LinkMapValue) (rules : List RelocRule) → IsSoundMapButOptions fs m →
+    FirstAt (applied_entry_rules fs m rules) None →
     (x v w : ℕ) → IsMemory fs m rules x v → IsMemory fs m rules x w → v ≡ w
 one_byte fs m rules is clean = one_of fs m rules (apart_of fs m is) clean.1.1.0 clean.1.1.1.0
 
@@ -509,7 +509,7 @@ module _ (fs : List ObjectValue) (m : LinkMapValue) (rules : List RelocRule) (ma
 begins_too : (m : LinkMapValue) (f s g t a : ℕ) → f ≡ g → s ≡ t → BeginsAt m g t a → BeginsAt m f s a
 begins_too m f s g t a file section at = ap (λ (n : ℕ). cell m.addresses n s) file ∙ ap (λ (n : ℕ). cell m.addresses g n) section ∙ at
 
-module _ (fs : List ObjectValue) (m : LinkMapValue) (rules : List RelocRule) (stand : StandApart fs m)
+module _ (fs : List ObjectValue) (m : LinkMapValue) (rules : List RelocRule) (stand : ArePlacedApart fs m)
     (within : Never (field_out_of_range fs rules)) (apart : Never (fields_overlap fs rules)) (placed : Never (unplaced fs m rules)) where
   -- the byte of a field
   field_byte : (f t a x : ℕ) (p : Site) (r : RelocRule) → BeginsAt m f t a → HasField fs rules p r → p.file ≡ f → target_at fs p ≡ t →

@@ -11,19 +11,19 @@ use Rattle.elf_link_field.specs.Field.{modulo, size_of}
 use Rattle.elf_link_field.specs.declared.rule.RelocRule.{RelocRule}
 use Rattle.elf_link_files.proofs.Public.{each_more}
 use Rattle.elf_link_files.specs.Files.{AreDiscardMarks, object_at, section_in}
-use Rattle.elf_link_files.specs.Rows.{FirstAmong, AreEach}
+use Rattle.elf_link_files.specs.Rows.{FirstAt, AreEach}
 use Rattle.elf_link_map.proofs.Public.{member_within, some_each}
 use Rattle.elf_link_map.specs.LinkMap.{LinkMapValue}
-use Rattle.elf_link_map.specs.Standing.{BeginsAt, StandApart, size_in, IsMemberAt, OutputsStand, address_in, member_address, member_at}
+use Rattle.elf_link_map.specs.Standing.{BeginsAt, ArePlacedApart, size_in, IsMemberAt, OutputsStand, address_in, member_address, member_at}
 use Rattle.elf_link_map.specs.Standing.{or_zero, output_at, output_end}
 use Rattle.elf_link_outputs.specs.declared.placing.Member.{Member}
 use Rattle.elf_link_relocate.proofs.Memories.{apart_of, outputs_of, sound_of, content_fits, begins, within_of, IsDecided, content_byte}
 use Rattle.elf_link_relocate.proofs.Memories.{some_below}
 use Rattle.elf_link_relocate.specs.Fields.{target_at, content_in, field_start, applied_entry_rules, field_out_of_range, fields_overlap}
 use Rattle.elf_link_relocate.specs.Fields.{unplaced}
-use Rattle.elf_link_relocate.specs.Linked.{IsLinked, LinkedValue, IsMapButOptions, HasContentAt, HasFieldAt, HaveBytes, IsInCommons}
+use Rattle.elf_link_relocate.specs.Linked.{IsLinked, LinkedValue, IsSoundMapButOptions, HasContentAt, HasFieldAt, HaveBytes, IsInCommons}
 use Rattle.elf_link_relocate.specs.Linked.{IsInContent, IsInMember, IsInMemory, IsInNoMember, IsInOutput, IsInOutputAt, IsMemory}
-use Rattle.elf_link_relocate.specs.Linked.{AreBytesOf, HasLiveBits, IsMapOfSome, IsReadyLink}
+use Rattle.elf_link_relocate.specs.Linked.{AreBytesOf, HasLiveBits, IsSoundMap, IsSoundLinked}
 use Rattle.elf_object_type.specs.Object.{ObjectValue}
 
 -- ---- sections in outputs
@@ -62,7 +62,7 @@ member_or fs m k i x =
       ]
     ]
 
-module _ (fs : List ObjectValue) (m : LinkMapValue) (rules : List RelocRule) (stand : StandApart fs m) (outputs : OutputsStand fs m)
+module _ (fs : List ObjectValue) (m : LinkMapValue) (rules : List RelocRule) (stand : ArePlacedApart fs m) (outputs : OutputsStand fs m)
     (within : Never (field_out_of_range fs rules)) (apart : Never (fields_overlap fs rules)) where
   -- a field lies in the content of its target
   field_content : (x : ℕ) → HasFieldAt fs m rules x → HasContentAt fs m x
@@ -108,7 +108,7 @@ module _ (fs : List ObjectValue) (m : LinkMapValue) (rules : List RelocRule) (st
   zero_in_commons x (j, k, j_in, k_in, from, to) = zero_by x
       (λ (f, s, n, content). (
       let (l, i, member, (start, end)) = content_output x f s n content in
-      let after = outputs.commons_behind l j member.0 j_in in
+      let after = outputs.commons_after l j member.0 j_in in
       omega arith))
       (inr (j, k, j_in, k_in, from, to))
 
@@ -135,26 +135,26 @@ module _ (fs : List ObjectValue) (m : LinkMapValue) (rules : List RelocRule) (st
 
 -- ---- the laws
 
-pub field_in_content : (fs : List ObjectValue) (m : LinkMapValue) (rules : List RelocRule) → IsMapButOptions fs m →
-    FirstAmong (applied_entry_rules fs m rules) None → (x : ℕ) → HasFieldAt fs m rules x → HasContentAt fs m x
+pub field_in_content : (fs : List ObjectValue) (m : LinkMapValue) (rules : List RelocRule) → IsSoundMapButOptions fs m →
+    FirstAt (applied_entry_rules fs m rules) None → (x : ℕ) → HasFieldAt fs m rules x → HasContentAt fs m x
 field_in_content fs m rules is clean = field_content fs m rules (apart_of fs m is) (outputs_of fs m is) clean.1.1.0 clean.1.1.1.0
 
-pub memory_in : (fs : List ObjectValue) (m : LinkMapValue) (rules : List RelocRule) → IsMapButOptions fs m →
-    FirstAmong (applied_entry_rules fs m rules) None → (x v : ℕ) → IsMemory fs m rules x v → IsInMemory m x
+pub memory_in : (fs : List ObjectValue) (m : LinkMapValue) (rules : List RelocRule) → IsSoundMapButOptions fs m →
+    FirstAt (applied_entry_rules fs m rules) None → (x v : ℕ) → IsMemory fs m rules x v → IsInMemory m x
 memory_in fs m rules is clean = in_memory fs m rules (apart_of fs m is) (outputs_of fs m is) clean.1.1.0 clean.1.1.1.0
 
-pub some_byte : (fs : List ObjectValue) (m : LinkMapValue) (rules : List RelocRule) → IsMapButOptions fs m →
-    FirstAmong (applied_entry_rules fs m rules) None → (x : ℕ) → IsInMemory m x → (v : ℕ) × IsMemory fs m rules x v
+pub some_byte : (fs : List ObjectValue) (m : LinkMapValue) (rules : List RelocRule) → IsSoundMapButOptions fs m →
+    FirstAt (applied_entry_rules fs m rules) None → (x : ℕ) → IsInMemory m x → (v : ℕ) × IsMemory fs m rules x v
 some_byte fs m rules is clean =
     byte_there fs m rules (apart_of fs m is) (outputs_of fs m is) clean.1.1.0 clean.1.1.1.0 clean.1.0 (sound_of fs m is).discarded
 
-pub memory_there : (fs : List ObjectValue) (m : LinkMapValue) (rules : List RelocRule) (l : LinkedValue) → IsMapButOptions fs m →
+pub memory_there : (fs : List ObjectValue) (m : LinkMapValue) (rules : List RelocRule) (l : LinkedValue) → IsSoundMapButOptions fs m →
     IsLinked fs m rules l →
     (x : ℕ) → IsInMemory m x → (v : ℕ) × IsMemory fs m rules x v
 memory_there fs m rules l is linked = some_byte fs m rules is linked.sound
 
-pub memory_zero : (fs : List ObjectValue) (m : LinkMapValue) (rules : List RelocRule) → IsMapButOptions fs m →
-    FirstAmong (applied_entry_rules fs m rules) None → (x k : ℕ) → k < length m.outputs → IsInOutputAt m k x → IsInNoMember fs m k x →
+pub memory_zero : (fs : List ObjectValue) (m : LinkMapValue) (rules : List RelocRule) → IsSoundMapButOptions fs m →
+    FirstAt (applied_entry_rules fs m rules) None → (x k : ℕ) → k < length m.outputs → IsInOutputAt m k x → IsInNoMember fs m k x →
     IsMemory fs m rules x 0
 memory_zero fs m rules is clean = zero_at fs m rules (apart_of fs m is) (outputs_of fs m is) clean.1.1.0 clean.1.1.1.0
 
@@ -183,8 +183,8 @@ past none [] n le = refl
 past none (x ∷ xs) zero le = absurd (omega arith)
 past none (x ∷ xs) (suc n) le = past none xs n (omega arith)
 
-module _ (fs : List ObjectValue) (m : LinkMapValue) (rules : List RelocRule) (is : IsMapButOptions fs m)
-    (clean : FirstAmong (applied_entry_rules fs m rules) None) where
+module _ (fs : List ObjectValue) (m : LinkMapValue) (rules : List RelocRule) (is : IsSoundMapButOptions fs m)
+    (clean : FirstAt (applied_entry_rules fs m rules) None) where
   abbrev IsCopy : ℕ → ℕ → Option (List ℕ) → Type 0
   IsCopy f s copy = MatchOption copy (¬ HasLiveBits fs f s) (AreBytesOf fs m rules f s)
 
@@ -237,17 +237,17 @@ module _ (fs : List ObjectValue) (m : LinkMapValue) (rules : List RelocRule) (is
         bytes = copy_in copies are;
       }))
 
-pub some_linked : (fs : List ObjectValue) (m : LinkMapValue) (rules : List RelocRule) → IsMapButOptions fs m →
-    FirstAmong (applied_entry_rules fs m rules) None → ¬ ((l : LinkedValue) → ¬ IsLinked fs m rules l)
+pub some_linked : (fs : List ObjectValue) (m : LinkMapValue) (rules : List RelocRule) → IsSoundMapButOptions fs m →
+    FirstAt (applied_entry_rules fs m rules) None → ¬ ((l : LinkedValue) → ¬ IsLinked fs m rules l)
 some_linked = some_copies
 
 -- Relocated bytes of some objects, their map and relocation rules are ready to be written, where the map is one that `map` answers.
 
-pub ready_of : (fs : List ObjectValue) (m : LinkMapValue) (rules : List RelocRule) (l : LinkedValue) → IsMapOfSome fs m →
-    IsLinked fs m rules l → IsReadyLink l
+pub ready_of : (fs : List ObjectValue) (m : LinkMapValue) (rules : List RelocRule) (l : LinkedValue) → IsSoundMap fs m →
+    IsLinked fs m rules l → IsSoundLinked l
 ready_of fs m rules l is linked = record {
-  map = subst (λ (n : LinkMapValue). IsMapOfSome l.objects n) (sym linked.same_map)
-      (subst (λ (gs : List ObjectValue). IsMapOfSome gs m) (sym linked.same_objects) is);
+  map = subst (λ (n : LinkMapValue). IsSoundMap l.objects n) (sym linked.same_map)
+      (subst (λ (gs : List ObjectValue). IsSoundMap gs m) (sym linked.same_objects) is);
   linked =
       subst (λ (rs : List RelocRule). IsLinked l.objects l.map rs l) (sym linked.same_rules)
       (subst (λ (n : LinkMapValue). IsLinked l.objects n rules l) (sym linked.same_map)
@@ -256,6 +256,6 @@ ready_of fs m rules l is linked = record {
 
 pub if_ready : {E : Type 0} (fs : List ObjectValue) (m : LinkMapValue) (rules : List RelocRule) (r : Result LinkedValue E) →
     IfOk r (IsLinked fs m rules) →
-    IfOk r (λ linked. IsMapOfSome fs m → IsReadyLink linked)
+    IfOk r (λ linked. IsSoundMap fs m → IsSoundLinked linked)
 if_ready fs m rules (Ok l) linked = λ is. ready_of fs m rules l is linked
 if_ready fs m rules (Err fault) linked = linked

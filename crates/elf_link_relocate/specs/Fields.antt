@@ -8,7 +8,7 @@ use Rattle.elf_link_field.specs.Field.{IsFirstRelocationRule, size_of, addend_at
 use Rattle.elf_link_field.specs.declared.rule.Form.TheVariants.{None as NoForm}
 use Rattle.elf_link_field.specs.declared.rule.RelocRule.{RelocRule}
 use Rattle.elf_link_files.specs.Files.{Discarded, object_at, section_in, Live, symbol_in}
-use Rattle.elf_link_files.specs.Rows.{Before, FirstAmong}
+use Rattle.elf_link_files.specs.Rows.{Before, FirstAt}
 use Rattle.elf_link_files.specs.declared.fault.LinkFault.TheVariants.{Rule, OutOfMemory}
 use Rattle.elf_link_files.specs.declared.fault.LinkFault.{LinkFault}
 use Rattle.elf_link_files.specs.declared.site.Site.{Site}
@@ -149,7 +149,7 @@ reference_value fs m f (Some i) = resolved_value fs m f i
 abbrev pub value_at : List ObjectValue → LinkMapValue → Site → Option ℕ
 value_at fs m p = reference_value fs m p.file (entry_at fs p).symbol
 
--- an address and a symbol's value at most
+-- at most the sum of an address and a st_value: below 2^65
 abbrev pub IsSmall : Option ℕ → Type 0
 IsSmall value = IfSome value (λ v. v < 2 ^ 65)
 
@@ -165,7 +165,7 @@ addend_of fs p r =
     if is_rela (body_at fs p) then (entry_at fs p).addend
     else addend_at (object_at fs p.file).order r.range (content_at fs p) (field_start fs p) (size_of r.width)
 
--- the number, where S, the symbol's value, is one
+-- the number of a field; None if its symbol has no value (S)
 abbrev pub number_at : List ObjectValue → LinkMapValue → Site → RelocRule → Option ℤ
 number_at fs m p r = option_map (λ value. relocation_number r.form value (addend_of fs p r) (field_address fs m p)) (value_at fs m p)
 
@@ -216,8 +216,8 @@ applied_entry_rules fs m rules =
     rule 15 (fields_overlap fs rules) ∷
     rule 16 (value_out_of_range fs m rules) ∷ []
 
--- the first of them that is broken, at its first site
+-- the first of rules 12 to 16 that is broken, at its first site; or an allocation failed
 abbrev pub IsRelocationFault : List ObjectValue → LinkMapValue → List RelocRule → LinkFault → Type 0
 IsRelocationFault fs m rules (Rule number file index entry) =
-    FirstAmong (applied_entry_rules fs m rules) (Some (number, record { file = file; index = index; entry = entry }))
+    FirstAt (applied_entry_rules fs m rules) (Some (number, record { file = file; index = index; entry = entry }))
 IsRelocationFault fs m rules OutOfMemory = Unit {0}

@@ -6,11 +6,11 @@ use Rattle.elf_field.specs.Bytes.{IsBytes, bytes_of}
 use Rattle.elf_link_field.specs.Field.{modulo, size_of}
 use Rattle.elf_link_field.specs.declared.rule.RelocRule.{RelocRule}
 use Rattle.elf_link_files.specs.Files.{object_at, AreDiscardMarks, section_in, Live}
-use Rattle.elf_link_files.specs.Rows.{FirstAmong}
+use Rattle.elf_link_files.specs.Rows.{FirstAt}
 use Rattle.elf_link_files.specs.declared.fault.Options.{Options}
 use Rattle.elf_link_files.specs.declared.site.Site.{Site}
 use Rattle.elf_link_map.specs.LinkMap.{FirstOfLink, IsLinkMap, LinkMapValue, with_options}
-use Rattle.elf_link_map.specs.Standing.{StandApart, member_address, member_at, output_at, output_end, BeginsAt}
+use Rattle.elf_link_map.specs.Standing.{ArePlacedApart, member_address, member_at, output_at, output_end, BeginsAt}
 use Rattle.elf_link_outputs.specs.Placed.{cell, common_at}
 use Rattle.elf_link_relocate.specs.Fields.{HasField, content_in, field_address, field_end, field_start, number_at, target_at}
 use Rattle.elf_link_relocate.specs.Fields.{applied_entry_rules}
@@ -38,18 +38,18 @@ pub record IsGrid {A : Type 0} (fs : List ObjectValue) (rows : List (List A)) : 
 -- What relocating needs to know of a link map.
 
 -- none of rules 1 to 11 of the link is broken, and the map is the one of these objects, for some options
-abbrev pub IsMapOfSome : List ObjectValue → LinkMapValue → Type 0
-IsMapOfSome fs m = (opt : Options) × IsLinkMap opt fs m × FirstOfLink opt fs None
+abbrev pub IsSoundMap : List ObjectValue → LinkMapValue → Type 0
+IsSoundMap fs m = (opt : Options) × IsLinkMap opt fs m × FirstOfLink opt fs None
 
 -- a link map of some objects but for its base, page and entry: with others in their place it is one. Neither rule 10 nor the entry's value
 -- is asked: by the law `without_entry`
-abbrev pub IsMapButOptions : List ObjectValue → LinkMapValue → Type 0
-IsMapButOptions fs m = (base page entry : ℕ) × IsMapOfSome fs (with_options m base page entry)
+abbrev pub IsSoundMapButOptions : List ObjectValue → LinkMapValue → Type 0
+IsSoundMapButOptions fs m = (base page entry : ℕ) × IsSoundMap fs (with_options m base page entry)
 
 -- it reports which sections are discarded, and its sections are apart
-pub record IsSoundMap (fs : List ObjectValue) (m : LinkMapValue) : Type 0 where
+pub record HasPlacedSections (fs : List ObjectValue) (m : LinkMapValue) : Type 0 where
   pub discarded : AreDiscardMarks fs m.discarded
-  pub places : StandApart fs m
+  pub places : ArePlacedApart fs m
 
 -- The memory of a link: the byte at each address. In the field of an applied entry a byte of its number; else, in a live section
 -- with bits, that of its content; else, in an output or among the commons, zero; else nothing.
@@ -137,7 +137,7 @@ pub record AreBytesOf (fs : List ObjectValue) (m : LinkMapValue) (rules : List R
 -- none of rules 12 to 16 is broken; the map, the objects and the relocation rules are these, and the bytes of each live section with bits
 -- those of memory; no other has bytes
 pub record IsLinked (fs : List ObjectValue) (m : LinkMapValue) (rules : List RelocRule) (l : LinkedValue) : Type 0 where
-  pub sound : FirstAmong (applied_entry_rules fs m rules) None
+  pub sound : FirstAt (applied_entry_rules fs m rules) None
   pub same_map : l.map ≡ m
   pub same_objects : l.objects ≡ fs
   pub same_rules : l.rules ≡ rules
@@ -168,8 +168,8 @@ identity_of fs = (let o = object_at fs 0 in record { order = o.order; osabi = o.
 -- When relocated bytes are ready to be written as an executable.
 
 -- the map and the relocated bytes are those of these objects, for some options, and no rule of the link is broken
-pub record IsReadyLink (l : LinkedValue) : Type 0 where
-  pub map : IsMapOfSome l.objects l.map
+pub record IsSoundLinked (l : LinkedValue) : Type 0 where
+  pub map : IsSoundMap l.objects l.map
   pub linked : IsLinked l.objects l.map l.rules l
 
 -- Objects that are linked, with their map.

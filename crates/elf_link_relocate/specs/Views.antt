@@ -4,7 +4,7 @@ use Rattle.elf_link_files.specs.Files.{object_at}
 use Rattle.elf_link_map.specs.Naming.{AreBindingIndexes}
 use Rattle.elf_link_map.specs.Standing.{AreObjects, ObjectsFit}
 use Rattle.elf_link_relocate.specs.Fields.{IsApplied, body_at, entry_at, is_rela, target_at, HasField}
-use Rattle.elf_link_relocate.specs.Linked.{LinkedValue, MappedValue, IsMapOfSome, IsSoundMap}
+use Rattle.elf_link_relocate.specs.Linked.{LinkedValue, MappedValue, IsSoundMap, HasPlacedSections}
 use Rattle.elf_link_relocate.specs.Passes.{copies_view, LinkingValue, FieldOfValue, IsInTarget, AreFields, FieldListValue, AreFieldsRead}
 use Rattle.elf_link_relocate.specs.Passes.{AllWithin}
 use Rattle.elf_link_relocate.specs.declared.field.Entry.{Entry}
@@ -33,7 +33,7 @@ mapped_value l = record { objects = l.objects.items; map = l.link.map }
 
 -- the map is the one of the objects, and the indexes those of their names
 pub record HasItsMap (l : MappedInside) : Type 0 where
-  pub map : IsMapOfSome l.objects.items l.link.map
+  pub map : IsSoundMap l.objects.items l.link.map
   pub indexes : AreBindingIndexes l.objects.items l.link.map (map_list (λ row. row.items) l.link.indexes.items)
 
 -- The objects, the map and the relocation rules of a link.
@@ -41,9 +41,9 @@ pub record HasItsMap (l : MappedInside) : Type 0 where
 abbrev pub linking_value : LinkingInside → LinkingValue
 linking_value l = record { objects = l.objects.now; map = l.map.now; rules = l.rules.now }
 
--- the map is sound for the objects
+-- the map says which sections are discarded, and its sections share no byte
 abbrev pub IsReady : LinkingInside → Type 0
-IsReady l = IsSoundMap l.objects.now l.map.now
+IsReady l = HasPlacedSections l.objects.now l.map.now
 
 -- A link with the indexes of its names.
 

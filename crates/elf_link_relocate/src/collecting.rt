@@ -1,6 +1,6 @@
 //! A pass over all entries of a link, in order.
 //!
-//! One pass relocates, and keeps no list of fields. It puts each number into its place, and keeps the first entry that breaks each of rules
+//! One pass relocates, and keeps no list of fields. It puts each number into its field, and keeps the first entry that breaks each of rules
 //! 13, 14 and 16, and whether the fields ascend, as compilers write them. Fields that ascend share no byte. If they do not, a second pass
 //! lists them too. They are sorted by section, and `first_double` searches the fields of each. If it finds a byte that two have, the entry
 //! of rule 15 is the last one of the shortest beginning of the list in which `first_double` finds one: the list is halved again and again.

@@ -15,7 +15,7 @@ use elf_link_map::files::{prove_rules, section_count, section_of};
 use elf_object_type::Body;
 use std::alloc::{AllocError, Global};
 
-/// The copies of all sections of the files, by file and section.
+/// For each section of each file the copy of its bytes; `None` if it is not live or has no bits.
 pub(crate) type Copies = Vec<Vec<Option<Vec<u8>>>>;
 
 /// A copy of a section's bytes, where it is live and has bits.

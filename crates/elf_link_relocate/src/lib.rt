@@ -1,8 +1,8 @@
 //! The relocated bytes of a link of ELF-64 objects (gABI chapter 4, Relocation): the number of each applied relocation in its
 //! field, by relocation rules.
 //!
-//! It asks one thing of a link map: that it is the map of the objects, and that none of rules 1 to 11 is broken (`IsMapButOptions`). What
-//! holds of every [`Linked`] is its invariant.
+//! It asks one thing of a link map: that with some base, page and entry in place of its own it is the map of the objects, and none of
+//! rules 1 to 11 is broken (`IsSoundMapButOptions`). What holds of every [`Linked`] is its invariant.
 //!
 //! [`relocate`] returns the bytes of each live section ([`Linked`]), or the first of rules 12 to 16 ([`rules`]) that is broken.
 //! [`loads`] lists the stretches of memory that a link has.
@@ -30,7 +30,7 @@ mod values;
 
 pub use laws::{
     any_options, field_in_content, memory_bytes, memory_in, memory_there, memory_zero, one_byte,
-    one_relocation_fault, some_byte, without_entry,
+    one_relocation_fault, some_byte, some_linked, without_entry,
 };
 pub use linked::{Identity, Linked, Mapped};
 pub use load::{Load, file_size, loads};

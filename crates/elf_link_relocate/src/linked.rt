@@ -1,7 +1,7 @@
 //! The relocated bytes of a link.
 ghost use Rattle.std.specs.Prelude.{◌≡◌, ◌<◌, ◌^◌, option_map, IfErr, IfOk, None, OnOk};
 ghost use Rattle.elf_link_map.specs.Standing.{AreObjects, ObjectsFit};
-ghost use Rattle.elf_link_relocate.specs.Linked.{bytes_at, identity_of, IsLinked, IsMapOfSome};
+ghost use Rattle.elf_link_relocate.specs.Linked.{bytes_at, identity_of, IsLinked, IsSoundMap};
 ghost use Rattle.elf_link_map.specs.LinkMap.{FirstOfLink, IsLinkFault, IsLinkMap};
 ghost use Rattle.elf_link_relocate.specs.Fields.{IsRelocationFault};
 
@@ -176,7 +176,7 @@ impl<'a> Mapped<'a> {
         alloc: Global,
         rules: &'m [RelocRule],
     ) -> Result<Linked<'m, 'a>, LinkFault>
-        ensures map { IsMapOfSome self.entry.now.objects self.entry.now.map }
+        ensures map { IsSoundMap self.entry.now.objects self.entry.now.map }
         ensures linked { IfOk result (λ linked. IsLinked self.entry.now.objects self.entry.now.map rules.entry.now linked) }
         ensures err { IfErr result (IsRelocationFault self.entry.now.objects self.entry.now.map rules.entry.now) }
     {

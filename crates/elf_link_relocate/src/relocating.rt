@@ -1,13 +1,14 @@
 //! The relocation of a link.
 ghost use Rattle.std.specs.Prelude.{◌≡◌, IfErr, IfOk, None, OnOk, Some, map as map_list};
 ghost use Rattle.elf_extent.specs.Extent.{Never};
-ghost use Rattle.elf_link_files.specs.Rows.{FirstAmong};
+ghost use Rattle.elf_link_files.specs.Rows.{FirstAt};
 ghost use Rattle.elf_link_relocate.specs.Passes.{AreFoundInOrder, AreRelocatedCopies, IsOverlapFault, IsRuleFault, NoneUnruled};
 ghost use Rattle.elf_link_relocate.specs.Passes.{copies_view, test_number};
 ghost use Rattle.elf_link_relocate.specs.Fields.{IsRelocationFault, applied_entry_rules, field_out_of_range, fields_overlap};
 ghost use Rattle.elf_link_map.specs.Naming.{AreBindingIndexes};
 ghost use Rattle.elf_link_map.specs.LinkMap.{IsOnlyFault, IsOnlyFirst};
-ghost use Rattle.elf_link_relocate.specs.Linked.{FieldsHoldNumbers, IsLinked, IsMapButOptions, IsMapOfSome, IsOnlyLinked, IsReadyLink};
+ghost use Rattle.elf_link_relocate.specs.Linked.{FieldsHoldNumbers, IsLinked, IsSoundMapButOptions, IsSoundMap};
+ghost use Rattle.elf_link_relocate.specs.Linked.{IsOnlyLinked, IsSoundLinked};
 
 use crate::collecting::pass_over_entries;
 use crate::copies::Copies;
@@ -59,7 +60,7 @@ impl Values<'_, '_, '_> {
     fn refuse_fields(&self, alloc: Global, found: &Found) -> Result<(), LinkFault>
         requires found { AreFoundInOrder self.now.objects self.now.map self.now.rules found.now }
         requires ruled { NoneUnruled self.now.objects self.now.rules }
-        ensures ok { OnOk result (FirstAmong (applied_entry_rules self.now.objects self.now.map self.now.rules) None) }
+        ensures ok { OnOk result (FirstAt (applied_entry_rules self.now.objects self.now.map self.now.rules) None) }
         ensures err { IfErr result (IsRelocationFault self.now.objects self.now.map self.now.rules) }
     {
         refuse(FieldTest::Unplaced, found.seen.unplaced)?;
@@ -89,7 +90,7 @@ fn found_in_order(alloc: Global, values: &Values<'_, '_, '_>) -> Result<Found, L
 fn relocated_copies(alloc: Global, values: Values<'_, '_, '_>) -> Result<Copies, LinkFault>
     ensures copies { IfOk result
         (λ copies. AreRelocatedCopies values.entry.objects values.entry.map values.entry.rules (copies_view copies.items)) }
-    ensures sound { OnOk result (FirstAmong (applied_entry_rules values.entry.objects values.entry.map values.entry.rules) None) }
+    ensures sound { OnOk result (FirstAt (applied_entry_rules values.entry.objects values.entry.map values.entry.rules) None) }
     ensures err { IfErr result (IsRelocationFault values.entry.objects values.entry.map values.entry.rules) }
 {
     let found = found_in_order(alloc, &values)?;
@@ -106,7 +107,7 @@ pub fn relocate_indexed<'m, 'a>(
     rules: &'m [RelocRule],
     indexes: &[Vec<usize>],
 ) -> Result<Linked<'m, 'a>, LinkFault>
-    requires map { IsMapButOptions objects.now map.now }
+    requires map { IsSoundMapButOptions objects.now map.now }
     requires indexes { AreBindingIndexes objects.now map.now (map_list (λ row. row.items) indexes.now) }
     ensures linked { IfOk result (λ linked. IsLinked objects.now map.now rules.now linked) }
     ensures err { IfErr result (IsRelocationFault objects.now map.now rules.now) }
@@ -145,14 +146,14 @@ pub fn relocate<'m, 'a>(
     objects: &'m [Object<'a>],
     rules: &'m [RelocRule],
 ) -> Result<Linked<'m, 'a>, LinkFault>
-    requires { IsMapButOptions objects.now map.now }
+    requires { IsSoundMapButOptions objects.now map.now }
     ensures linked { IfOk result (λ linked. IsLinked objects.now map.now rules.now linked) }
     ensures numbers { IfOk result (FieldsHoldNumbers objects.now map.now rules.now) }
-    ensures ready { IfOk result (λ linked. IsMapOfSome objects.now map.now → IsReadyLink linked) }
+    ensures ready { IfOk result (λ linked. IsSoundMap objects.now map.now → IsSoundLinked linked) }
     ensures err { IfErr result (IsRelocationFault objects.now map.now rules.now) }
     ensures only_linked { IfOk result (IsOnlyLinked objects.now map.now rules.now) }
-    ensures only_sound { OnOk result (IsOnlyFirst (FirstAmong (applied_entry_rules objects.now map.now rules.now)) None) }
-    ensures only_err { IfErr result (IsOnlyFault (FirstAmong (applied_entry_rules objects.now map.now rules.now))) }
+    ensures only_sound { OnOk result (IsOnlyFirst (FirstAt (applied_entry_rules objects.now map.now rules.now)) None) }
+    ensures only_err { IfErr result (IsOnlyFault (FirstAt (applied_entry_rules objects.now map.now rules.now))) }
 {
     let indexes = name_indexes(alloc, objects, map)?;
     relocate_indexed(alloc, map, objects, rules, &indexes)

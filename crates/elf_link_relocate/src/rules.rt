@@ -2,8 +2,8 @@
 
 /// An applied entry is of a kind that has no relocation rule.
 pub const NO_RULE: u16 = 12;
-/// The symbol of a field is local, and undefined or in a section that is not live; or it is not, and the definition that its name is
-/// bound to is in such a section.
+/// The symbol of a field is local, and undefined or in a section that is not live; or it is not local, and the definition that its name
+/// is bound to is in such a section.
 pub const UNPLACED: u16 = 13;
 /// A field passes the end of its target.
 pub const FIELD_OUT_OF_RANGE: u16 = 14;

@@ -22,7 +22,7 @@ use std::marker::Model;
 
 // What the passes over the entries and the fields look at.
 
-/// The objects of a link, their map, and the relocation rules. The map is sound for the objects.
+/// The objects of a link, their map, and the relocation rules. The map says which sections are discarded, and its sections share no byte.
 #[derive(Drop)]
 pub(crate) struct Linking<'l, 'a> {
     pub(crate) objects: &'l [Object<'a>],

@@ -20,6 +20,7 @@
 //! ```
 #![tactic(auto)]
 
+pub mod laws;
 pub mod rules;
 
 pub use elf_object_file::{prove_read_back, write_object};

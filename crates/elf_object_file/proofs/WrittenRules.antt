@@ -27,7 +27,7 @@ use Rattle.elf_object_layout.specs.SectionsLeftOut.{is_kept, left_out, symbol_ta
 use Rattle.elf_object_reader.specs.Denotes.{body_kind, kept}
 use Rattle.elf_object_reader.specs.FileRules.{HasWrongKeptInfo, HasWrongKeptLink, IsKeptBits, IsPlain, IsSymbolOutside, IsWrongGroupMember}
 use Rattle.elf_object_reader.specs.FileRules.{reference_rules, symbol_outside, wrong_group_member, wrong_kept_info, wrong_kept_link}
-use Rattle.elf_object_reader.specs.FileRules.{wrong_relocation_target, file_rules, foreign_section, front_rules, rules_behind}
+use Rattle.elf_object_reader.specs.FileRules.{wrong_relocation_target, file_rules, foreign_section, front_rules, rules_after_front}
 use Rattle.elf_object_reader.specs.FileRules.{rules_of_bodies, rules_of_body, second_symbol_table, stray_index_table, symbol_rules_in}
 use Rattle.elf_object_reader.specs.declared.object_file.BodyKind.TheVariants.{Bits, NoBits, Relocs, Group}
 use Rattle.elf_object_reader.specs.declared.object_file.BodyKind.{BodyKind}
@@ -578,8 +578,8 @@ module _ (o : ObjectValue) (places : List ℕ) (written : IsWrittenAt o places) 
 
   -- ---- all rules
 
-  after_kept : (let f = written_sections o places in FirstIn (rules_behind (left_out f) f (symbol_table f)) None)
-  unfolding rules_behind
+  after_kept : (let f = written_sections o places in FirstIn (rules_after_front (left_out f) f (symbol_table f)) None)
+  unfolding rules_after_front
   after_kept =
       let f = written_sections o places in
       let left = left_out f in

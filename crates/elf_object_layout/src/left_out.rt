@@ -4,11 +4,11 @@ ghost use Rattle.std.specs.Prelude.{◌≡◌, ◌<◌, IfSome, length};
 ghost use Rattle.std.specs.Bool.{OnTrue};
 ghost use Rattle.elf_object_layout.specs.SectionsLeftOut.{is_at as is_at_of, is_kept as is_kept_of, left_out};
 ghost use Rattle.elf_object_layout.specs.SectionsLeftOut.{symbol_table as symbol_table_of};
-ghost use Rattle.elf_table_symbols.specs.Symbols.{index_table as index_table_of};
 ghost use Rattle.elf_table_symbols.specs.Sections.{sections_of};
 
 use elf_field::abi::*;
 use elf_image_type::Image;
+use elf_table_symbols::index_table;
 
 /// The sections that an object leaves out, beside those without a type, by their indexes: the symbol table with its string
 /// table and its index table, and the section name string table (0 for none).
@@ -80,19 +80,6 @@ pub fn symbol_table(image: &Image<'_>) -> Option<usize>
 {
     for i in 0..image.section_count() {
         if image.section(i).sh_type == SHT_SYMTAB {
-            return Some(i);
-        }
-    }
-    None
-}
-
-/// The first index table of the symbol table in section `t`.
-fn index_table(image: &Image<'_>, t: usize) -> Option<usize>
-    ensures { result ≡ index_table_of (sections_of image.now) t }
-{
-    for i in 0..image.section_count() {
-        let section = image.section(i);
-        if section.sh_type == SHT_SYMTAB_SHNDX && section.sh_link as usize == t {
             return Some(i);
         }
     }

@@ -15,13 +15,14 @@ use Rattle.elf_image_stream.specs.declared.fault.BytesFault.{BytesFault}
 use Rattle.elf_object_reader.proofs.Kept.{filter_from_kept, filter_from_other}
 use Rattle.elf_object_layout.specs.SectionsLeftOut.{left_out, symbol_table, is_kept}
 use Rattle.elf_object_reader.specs.Denotes.{kept, body_kind}
-use Rattle.elf_object_reader.specs.FileRules.{file_rules, front_rules, reference_rules, rules_behind, rules_of_bodies, rules_of_symbols}
+use Rattle.elf_object_reader.specs.FileRules.{file_rules, front_rules, reference_rules, rules_after_front, rules_of_bodies}
+use Rattle.elf_object_reader.specs.FileRules.{rules_of_symbols}
 use Rattle.elf_object_reader.specs.FileRules.{symbol_outside_rules, symbol_rules_in, rules_of_body, symbol_outside, IsMemberBefore}
 use Rattle.elf_object_reader.specs.FileRules.{wrong_group_member_before, wrong_group_member_of, AreMarks}
 use Rattle.elf_object_layout.specs.declared.left_out.LeftOut.{LeftOut}
 use Rattle.elf_table_symbols.specs.Sections.{Sections, count, section}
 use Rattle.elf_table_symbols.specs.Symbols.{symbol_table_rules}
-use Rattle.elf_table_symbols.specs.Verdicts.{IsTestedBehind}
+use Rattle.elf_table_symbols.specs.Verdicts.{IsTestedAfter}
 
 -- The runs of rules of a file that breaks none: a list without a fault has none in its first run, and none in the rest, so each run has
 -- none.
@@ -30,12 +31,12 @@ pub front_sound : (f : Sections) → FirstIn (file_rules f) None → FirstIn (fr
 unfolding file_rules
 front_sound f clean = FirstIn-front (front_rules f) _ clean
 
-after_sound : (f : Sections) → FirstIn (file_rules f) None → FirstIn (rules_behind (left_out f) f (symbol_table f)) None
+after_sound : (f : Sections) → FirstIn (file_rules f) None → FirstIn (rules_after_front (left_out f) f (symbol_table f)) None
 unfolding file_rules
 after_sound f clean = FirstIn-after (front_rules f) _ clean
 
 pub symbol_run_sound : (f : Sections) → FirstIn (file_rules f) None → FirstIn (symbol_rules_in (left_out f) f (symbol_table f)) None
-unfolding rules_behind
+unfolding rules_after_front
 symbol_run_sound f clean = FirstIn-front (symbol_rules_in (left_out f) f (symbol_table f)) _ (after_sound f clean)
 
 pub symbols_sound : (f : Sections) → FirstIn (file_rules f) None → FirstIn (rules_of_symbols f (symbol_table f)) None
@@ -47,13 +48,13 @@ unfolding symbol_rules_in
 places_sound f clean = FirstIn-after (rules_of_symbols f (symbol_table f)) _ (symbol_run_sound f clean)
 
 pub all_bodies_sound : (f : Sections) → FirstIn (file_rules f) None → FirstIn (rules_of_bodies f (kept (left_out f) f)) None
-unfolding rules_behind
+unfolding rules_after_front
 all_bodies_sound f clean =
     FirstIn-front (rules_of_bodies f (kept (left_out f) f)) _
     (FirstIn-after (symbol_rules_in (left_out f) f (symbol_table f)) _ (after_sound f clean))
 
 pub references_sound : (f : Sections) → FirstIn (file_rules f) None → FirstIn (reference_rules (left_out f) f) None
-unfolding rules_behind
+unfolding rules_after_front
 references_sound f clean =
     FirstIn-after (rules_of_bodies f (kept (left_out f) f)) _
     (FirstIn-after (symbol_rules_in (left_out f) f (symbol_table f)) _ (after_sound f clean))
@@ -64,7 +65,7 @@ references_sound f clean =
 
 -- what a call answers that tests these rules and makes nothing
 abbrev pub IsVerdict : List {1} (Ruled ℕ) → Result (Unit {0}) BytesFault → Type 0
-IsVerdict rules result = IsTestedBehind [] rules (λ _. Unit {0}) result
+IsVerdict rules result = IsTestedAfter [] rules (λ _. Unit {0}) result
 
 -- the first rule that is broken, as a verdict
 pub verdict_found : (rules : List {1} (Ruled ℕ)) (number at : ℕ) (result : Result (Unit {0}) BytesFault) →
@@ -85,48 +86,48 @@ verdict_later xs ys (Err OutOfMemory) clean said = tt
 -- the first run's own fault
 pub front_fault : {T : Type 0} (f : Sections) (Is : T → Type 0) (number at : ℕ) (result : Result T BytesFault) →
     FirstIn (front_rules f) (Some (number, at)) →
-    IsErrAnd result (λ error. error ≡ Rule number at) → IsTestedBehind (front_rules f) (file_rules f) Is result
+    IsErrAnd result (λ error. error ≡ Rule number at) → IsTestedAfter (front_rules f) (file_rules f) Is result
 unfolding file_rules
 front_fault f Is number at (Ok value) found same = absurd same
 front_fault {T} f Is number at (Err error) found same =
-    subst (λ (e : BytesFault). IsTestedBehind {T = T} (front_rules f) (file_rules f) Is (Err e)) (sym same)
+    subst (λ (e : BytesFault). IsTestedAfter {T = T} (front_rules f) (file_rules f) Is (Err e)) (sym same)
     (FirstIn-sooner (front_rules f) _ (number, at) found)
 
 -- what the rules after it find is what all find
 pub found_after : (f : Sections) (left : LeftOut) (found : Option (ℕ × ℕ)) → left ≡ left_out f → FirstIn (front_rules f) None →
-    FirstIn (rules_behind left f left.symbol_table) found → FirstIn (file_rules f) found
+    FirstIn (rules_after_front left f left.symbol_table) found → FirstIn (file_rules f) found
 unfolding file_rules
 found_after f left found same clean past =
-    FirstIn-later (front_rules f) _ found clean (subst (λ (l : LeftOut). FirstIn (rules_behind l f l.symbol_table) found) same past)
+    FirstIn-later (front_rules f) _ found clean (subst (λ (l : LeftOut). FirstIn (rules_after_front l f l.symbol_table) found) same past)
 
 -- their fault
 pub fault_after : {T : Type 0} (f : Sections) (left : LeftOut) (Is : T → Type 0) (fault : BytesFault) (result : Result T BytesFault) →
     left ≡ left_out f →
-    FirstIn (front_rules f) None → IsVerdict (rules_behind left f left.symbol_table) (Err fault) →
+    FirstIn (front_rules f) None → IsVerdict (rules_after_front left f left.symbol_table) (Err fault) →
     IsErrAnd result (λ error. error ≡ fault) →
-    IsTestedBehind (front_rules f) (file_rules f) Is result
+    IsTestedAfter (front_rules f) (file_rules f) Is result
 fault_after f left Is fault (Ok value) same clean said handed = absurd handed
 fault_after {T} f left Is fault (Err error) same clean said handed =
-    subst (λ (e : BytesFault). IsTestedBehind {T = T} (front_rules f) (file_rules f) Is (Err e)) (sym handed) (known fault said)
+    subst (λ (e : BytesFault). IsTestedAfter {T = T} (front_rules f) (file_rules f) Is (Err e)) (sym handed) (known fault said)
   where
-    known : (fault : BytesFault) → IsVerdict (rules_behind left f left.symbol_table) (Err fault) →
-        IsTestedBehind {T = T} (front_rules f) (file_rules f) Is (Err fault)
+    known : (fault : BytesFault) → IsVerdict (rules_after_front left f left.symbol_table) (Err fault) →
+        IsTestedAfter {T = T} (front_rules f) (file_rules f) Is (Err fault)
     known (Rule number at) found = found_after f left (Some (number, at)) same clean found
     known OutOfMemory found = clean
 
 -- where no rule is broken, only memory can be wanted
 pub read_validated : {T : Type 0} (f : Sections) (Is : T → Type 0) (result : Result T BytesFault) → FirstIn (file_rules f) None →
     IfOk result Is →
-    IfErr result (λ error. error ≡ OutOfMemory) → IsTestedBehind (front_rules f) (file_rules f) Is result
+    IfErr result (λ error. error ≡ OutOfMemory) → IsTestedAfter (front_rules f) (file_rules f) Is result
 read_validated f Is (Ok value) clean is memory = (clean, is)
 read_validated {T} f Is (Err error) clean is memory =
-    subst (λ (e : BytesFault). IsTestedBehind {T = T} (front_rules f) (file_rules f) Is (Err e)) (sym memory) (front_sound f clean)
+    subst (λ (e : BytesFault). IsTestedAfter {T = T} (front_rules f) (file_rules f) Is (Err e)) (sym memory) (front_sound f clean)
 
 pub memory_wanted : {T : Type 0} (f : Sections) (Is : T → Type 0) (result : Result T BytesFault) → FirstIn (file_rules f) None →
-    IsErrAnd result (λ error. error ≡ OutOfMemory) → IsTestedBehind (front_rules f) (file_rules f) Is result
+    IsErrAnd result (λ error. error ≡ OutOfMemory) → IsTestedAfter (front_rules f) (file_rules f) Is result
 memory_wanted f Is (Ok value) clean said = absurd said
 memory_wanted {T} f Is (Err error) clean said =
-    subst (λ (e : BytesFault). IsTestedBehind {T = T} (front_rules f) (file_rules f) Is (Err e)) (sym said) (front_sound f clean)
+    subst (λ (e : BytesFault). IsTestedAfter {T = T} (front_rules f) (file_rules f) Is (Err e)) (sym said) (front_sound f clean)
 
 -- Steps of a loop over the sections. Invariant (`IsFoundByAll`): the first fault in the tables of the kept sections from i on is the first
 -- of all. A section that is left out, or kept without a fault, keeps it for i + 1. If the kept section i has a fault, that is the first one

@@ -186,11 +186,11 @@ reference_rules left f =
 unfoldable pub symbol_rules_in : LeftOut → Sections → Option ℕ → List {1} (Ruled ℕ)
 symbol_rules_in left f table = rules_of_symbols f table ++ symbol_outside_rules left f table
 
-unfoldable pub rules_behind : LeftOut → Sections → Option ℕ → List {1} (Ruled ℕ)
-rules_behind left f table = symbol_rules_in left f table ++ (rules_of_bodies f (kept left f) ++ reference_rules left f)
+unfoldable pub rules_after_front : LeftOut → Sections → Option ℕ → List {1} (Ruled ℕ)
+rules_after_front left f table = symbol_rules_in left f table ++ (rules_of_bodies f (kept left f) ++ reference_rules left f)
 
 unfoldable pub file_rules : Sections → List {1} (Ruled ℕ)
-file_rules f = front_rules f ++ rules_behind (left_out f) f (symbol_table f)
+file_rules f = front_rules f ++ rules_after_front (left_out f) f (symbol_table f)
 
 -- Marks over the sections of a file: one for each section of which something holds.
 

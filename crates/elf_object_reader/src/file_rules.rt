@@ -7,12 +7,12 @@ ghost use Rattle.elf_object_reader.specs.FileRules.{IsForeignType, foreign_secti
 ghost use Rattle.elf_object_reader.specs.FileRules.{BreaksReference, HasWrongKeptInfo, HasWrongKeptLink, HasWrongRelocationTarget, IsPlain};
 ghost use Rattle.elf_object_reader.specs.FileRules.{SomeReference, reference_field, sections_of_file, IsMemberBefore, IsWrongGroupMember};
 ghost use Rattle.elf_object_reader.specs.FileRules.{wrong_group_member, wrong_group_member_of, AreMarks, IsSymbolOutside, reference_rules};
-ghost use Rattle.elf_object_reader.specs.FileRules.{rules_behind, rules_of_bodies, rules_of_body, symbol_outside, symbol_rules_in};
+ghost use Rattle.elf_object_reader.specs.FileRules.{rules_after_front, rules_of_bodies, rules_of_body, symbol_outside, symbol_rules_in};
 ghost use Rattle.elf_object_layout.specs.SectionsLeftOut.{symbol_table as symbol_table_of};
 ghost use Rattle.elf_object_reader.specs.Denotes.{body_kind, kept};
 ghost use Rattle.elf_image_rules.specs.Rows.{fault_of, FirstIn};
 ghost use Rattle.elf_table_symbols.specs.Sections.{sections_of, count, content, section};
-ghost use Rattle.elf_table_symbols.specs.Verdicts.{IsTestedBehind};
+ghost use Rattle.elf_table_symbols.specs.Verdicts.{IsTestedAfter};
 
 use crate::object_file::{BodyKind, FileSection, FileSymbols, ObjectFile};
 use crate::rules::*;
@@ -284,7 +284,7 @@ impl<'i, 'a> ObjectFile<'i, 'a> {
     /// All rules of the image as an object but 70 to 74, by the verdicts on its tables.
     pub(crate) fn validate(&self, alloc: Global) -> Result<(), BytesFault>
         ensures { let left = self.now.left in
-            IsTestedBehind [] (rules_behind left (sections_of_file self.now) left.symbol_table) (λ _. Unit {0}) result }
+            IsTestedAfter [] (rules_after_front left (sections_of_file self.now) left.symbol_table) (λ _. Unit {0}) result }
     {
         self.validate_symbols()?;
         self.validate_bodies()?;
@@ -337,7 +337,7 @@ impl<'i, 'a> ObjectFile<'i, 'a> {
     /// Rules 76 to 79.
     #[tactic(auto, unfolding(crate::specs::FileRules::reference_rules))]
     fn validate_references(&self, alloc: Global) -> Result<(), BytesFault>
-        ensures { IsTestedBehind [] (reference_rules self.now.left (sections_of_file self.now)) (λ _. Unit {0}) result }
+        ensures { IsTestedAfter [] (reference_rules self.now.left (sections_of_file self.now)) (λ _. Unit {0}) result }
     {
         if let Some(at) = self.lowest_reference(ReferenceRule::WrongRelocationTarget) {
             return Err(BytesFault::from(Broken::new(WRONG_RELOCATION_TARGET, at)));

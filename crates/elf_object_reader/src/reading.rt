@@ -11,7 +11,7 @@ ghost use Rattle.elf_object_reader.specs.FileRules.{file_rules, AreSectionPositi
 ghost use Rattle.elf_table_symbols.specs.Sections.{sections_of, section};
 ghost use Rattle.elf_image_stream.specs.declared.fault.BytesFault.TheVariants.{OutOfMemory};
 ghost use Rattle.elf_object_type.specs.ObjectView.{HasNameEnds, value_of};
-ghost use Rattle.elf_table_symbols.specs.Verdicts.{IsOnlyValidatedBehind, IsTestedBehind, IsValidatedBehind, OfItsFile};
+ghost use Rattle.elf_table_symbols.specs.Verdicts.{IsOnlyValidatedAfter, IsTestedAfter, IsValidatedAfter, OfItsFile};
 
 use crate::file_rules::validate_front;
 use crate::name_ends::{useful_section_ends, useful_symbol_ends};
@@ -111,8 +111,8 @@ impl<'i, 'a> ObjectFile<'i, 'a> {
 /// read further than to the end of a block of 4,096 bytes.
 pub fn object_of<'a>(alloc: Global, image: &Image<'a>) -> Result<Object<'a>, Fault>
     ensures validated { let f = sections_of image.now in
-        IsValidatedBehind (front_rules f) (file_rules f) (λ o. Denotes f o) result }
-    ensures file { OfItsFile image.now (λ f. IsOnlyValidatedBehind (front_rules f) (file_rules f) (DenotesOnly f) result) }
+        IsValidatedAfter (front_rules f) (file_rules f) (λ o. Denotes f o) result }
+    ensures file { OfItsFile image.now (λ f. IsOnlyValidatedAfter (front_rules f) (file_rules f) (DenotesOnly f) result) }
 {
     image.prove_stands();
     Ok(read_object(alloc, image)?)
@@ -121,7 +121,7 @@ pub fn object_of<'a>(alloc: Global, image: &Image<'a>) -> Result<Object<'a>, Fau
 /// The object that the image denotes, as [`object_of`] makes it, whose fault is the public form of this one.
 pub fn read_object<'a>(alloc: Global, image: &Image<'a>) -> Result<Object<'a>, BytesFault>
     ensures { let f = sections_of image.now in
-        IsTestedBehind (front_rules f) (file_rules f) (λ o. Denotes f o) result }
+        IsTestedAfter (front_rules f) (file_rules f) (λ o. Denotes f o) result }
 {
     image.prove_stands();
     let (parts, ends) = parts_of(alloc, image)?;
@@ -131,7 +131,7 @@ pub fn read_object<'a>(alloc: Global, image: &Image<'a>) -> Result<Object<'a>, B
 /// The parts of the object that the image denotes, and where their names end.
 fn parts_of<'a>(alloc: Global, image: &Image<'a>) -> Result<(ObjectParts<'a>, NameEnds), BytesFault>
     ensures { let f = sections_of image.now in
-        IsTestedBehind (front_rules f) (file_rules f)
+        IsTestedAfter (front_rules f) (file_rules f)
         (λ (parts, ends). Denotes f (value_of parts) × HasNameEnds (value_of parts) ends) result }
 {
     let left = LeftOut::of(image);

@@ -1,5 +1,5 @@
-//! The number of each rule of a file that is read as an object, which are broken at an offset. docs/RULES.md has the order in which
-//! they are tested.
+//! The numbers of the rules of a file that is read as an object, each broken at an offset. docs/RULES.md has the order in which they are
+//! tested.
 
 /// The file is not a relocatable one.
 pub const NOT_RELOCATABLE: u16 = 70;

@@ -70,8 +70,8 @@ end_after at (j ∷ ks) k more n none ends =
 pub record IsEndAt (at : ℕ) (ks : List (List ℕ)) (n : List ℕ) (x : ℕ) : Type 0 where
   pub from : at + length n ≤ x
   pub within : x < at + length (flat_map closed ks)
-  pub behind : List ℕ
-  pub stands : drop (x - length n - at) (flat_map closed ks) ≡ n ++ (0 ∷ behind)
+  pub after : List ℕ
+  pub stands : drop (x - length n - at) (flat_map closed ks) ≡ n ++ (0 ∷ after)
 
 ends_here : (at : ℕ) (k : List ℕ) (ks : List (List ℕ)) (n : List ℕ) → IsSuffix n k → IsEndAt at (k ∷ ks) n (at + length k)
 ends_here at k ks n (front, is) =
@@ -84,7 +84,7 @@ ends_here at k ks n (front, is) =
     record {
       from = omega arith;
       within = omega arith;
-      behind = rest;
+      after = rest;
       stands =
           ap (drop (at + length k - length n - at)) split ∙ ap (λ (x : ℕ). drop x (front ++ (n ++ (0 ∷ rest)))) skip
           ∙ drop_at front (n ++ (0 ∷ rest)) (length front) refl;
@@ -102,7 +102,7 @@ ends_later at k ks n x is =
     record {
       from = omega arith;
       within = omega arith;
-      behind = is.behind;
+      after = is.after;
       stands =
           ap (λ (y : ℕ). drop y (closed k ++ rest)) skip
           ∙ drop-append-add (closed k) rest (x - length n - (at + suc (length k))) ∙ is.stands;

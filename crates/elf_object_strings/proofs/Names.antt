@@ -190,8 +190,8 @@ end_is at (k ∷ ks) n any = end_step at k ks n (is_suffix n k) refl (end_is (at
 -- the name is in the list, with a zero after it
 pub record Stands (t n : List ℕ) : Type 0 where
   pub front : List ℕ
-  pub behind : List ℕ
-  pub is : t ≡ front ++ (n ++ (0 ∷ behind))
+  pub after : List ℕ
+  pub is : t ≡ front ++ (n ++ (0 ∷ after))
 
 -- none of the names ends with another of them
 abbrev pub AreApart : List (List ℕ) → Type 0
@@ -201,7 +201,7 @@ AreApart (k ∷ ks) = AllByRecursion (λ n. (IsSuffix n k → ⊥) × (IsSuffix 
 -- ---- a name is cut out of a list with its zero; another one is its suffix, or still is there
 
 longer_front : (b : ℕ) (t n : List ℕ) → Stands t n → Stands (b ∷ t) n
-longer_front b t n s = record { front = b ∷ s.front; behind = s.behind; is = ap (λ (xs : List ℕ). b ∷ xs) s.is }
+longer_front b t n s = record { front = b ∷ s.front; after = s.after; is = ap (λ (xs : List ℕ). b ∷ xs) s.is }
 
 longer_suffix : (b : ℕ) (n k : List ℕ) → IsSuffix n k → IsSuffix n (b ∷ k)
 longer_suffix b n k s = (b ∷ s.0, ap (λ (xs : List ℕ). b ∷ xs) s.1)
@@ -209,7 +209,7 @@ longer_suffix b n k s = (b ∷ s.0, ap (λ (xs : List ℕ). b ∷ xs) s.1)
 -- the other one begins within the name, its zero or after
 inside : (k bs front n cs : List ℕ) → IsZeroFree k → IsZeroFree n → k ++ (0 ∷ bs) ≡ front ++ (n ++ (0 ∷ cs)) → IsSuffix n k ⊎ Stands bs n
 inside k bs [] n cs free other is = inl ([], one_name k n bs cs free other is)
-inside [] bs (c ∷ front) n cs free other is = inr (record { front = front; behind = cs; is = rests 0 c _ _ is })
+inside [] bs (c ∷ front) n cs free other is = inr (record { front = front; after = cs; is = rests 0 c _ _ is })
 inside (b ∷ k) bs (c ∷ front) n cs free other is = by_rest (inside k bs front n cs free.1 other (rests b c _ _ is)) where
   by_rest : IsSuffix n k ⊎ Stands bs n → IsSuffix n (b ∷ k) ⊎ Stands bs n
   by_rest (inl s) = inl (longer_suffix b n k s)
@@ -238,7 +238,7 @@ left_over (b ∷ front) k bs [] n cs free other is = by_before (before (b ∷ fr
   by_before : IsSuffix k n ⊎ ((rest : List ℕ) × (b ∷ (front ++ bs) ≡ n ++ (0 ∷ rest))) →
       IsSuffix n k ⊎ (IsSuffix k n ⊎ Stands (b ∷ (front ++ bs)) n)
   by_before (inl s) = inr (inl s)
-  by_before (inr s) = inr (inr (record { front = []; behind = s.0; is = s.1 }))
+  by_before (inr s) = inr (inr (record { front = []; after = s.0; is = s.1 }))
 left_over (b ∷ front) k bs (c ∷ os) n cs free other is = by_rest (left_over front k bs os n cs free other (rests b c _ _ is)) where
   by_rest : IsSuffix n k ⊎ (IsSuffix k n ⊎ Stands (front ++ bs) n) → IsSuffix n k ⊎ (IsSuffix k n ⊎ Stands (b ∷ (front ++ bs)) n)
   by_rest (inl s) = inl s
@@ -248,16 +248,16 @@ left_over (b ∷ front) k bs (c ∷ os) n cs free other is = by_rest (left_over 
 -- ---- all of them
 
 one_left : (t k n : List ℕ) (s : Stands t k) → IsZeroFree k → IsZeroFree n → (IsSuffix n k → ⊥) × (IsSuffix k n → ⊥) → Stands t n →
-    Stands (s.front ++ s.behind) n
-one_left t k n s free other apart o = by_left (left_over s.front k s.behind o.front n o.behind free other (sym s.is ∙ o.is)) where
-  by_left : IsSuffix n k ⊎ (IsSuffix k n ⊎ Stands (s.front ++ s.behind) n) → Stands (s.front ++ s.behind) n
+    Stands (s.front ++ s.after) n
+one_left t k n s free other apart o = by_left (left_over s.front k s.after o.front n o.after free other (sym s.is ∙ o.is)) where
+  by_left : IsSuffix n k ⊎ (IsSuffix k n ⊎ Stands (s.front ++ s.after) n) → Stands (s.front ++ s.after) n
   by_left (inl is) = absurd (apart.0 is)
   by_left (inr (inl is)) = absurd (apart.1 is)
   by_left (inr (inr is)) = is
 
 all_left : (t k : List ℕ) (s : Stands t k) (ks : List (List ℕ)) → IsZeroFree k → AreZeroFree ks →
     AllByRecursion (λ n. (IsSuffix n k → ⊥) × (IsSuffix k n → ⊥)) ks → AllByRecursion (Stands t) ks →
-    AllByRecursion (Stands (s.front ++ s.behind)) ks
+    AllByRecursion (Stands (s.front ++ s.after)) ks
 all_left t k s [] free others apart all = tt
 all_left t k s (n ∷ ks) free others apart all =
     (one_left t k n s free others.0 apart.0 all.0, all_left t k s ks free others.1 apart.1 all.1)
@@ -267,11 +267,11 @@ pub no_shorter_rest : (ks : List (List ℕ)) (t : List ℕ) → AreZeroFree ks �
 no_shorter_rest [] t free apart all = omega arith
 no_shorter_rest (k ∷ ks) t free apart all =
     let s = all.0 in
-    let rest = no_shorter_rest ks (s.front ++ s.behind) free.1 apart.1 (all_left t k s ks free.0 free.1 apart.0 all.1) in
+    let rest = no_shorter_rest ks (s.front ++ s.after) free.1 apart.1 (all_left t k s ks free.0 free.1 apart.0 all.1) in
     let whole = ap (λ (xs : List ℕ). length xs) s.is in
-    let outer = length-append s.front (k ++ (0 ∷ s.behind)) in
-    let inner = length-append k (0 ∷ s.behind) in
-    let cut = length-append s.front s.behind in
+    let outer = length-append s.front (k ++ (0 ∷ s.after)) in
+    let inner = length-append k (0 ∷ s.after) in
+    let cut = length-append s.front s.after in
     let all_closed = length-append (closed k) (flat_map closed ks) in
     let one_closed = length-append k (0 ∷ []) in
     omega arith
@@ -513,7 +513,7 @@ held_at names name named ends =
       within = omega arith;
       read = λ all.
           (let split : x - length name ≡ suc (x - length name - 1) = omega arith in
-          ap (string (0 ∷ bytes)) (place ∙ split) ∙ ap (before_first (λ byte. byte == 0)) is.stands ∙ before_zero name is.behind all);
+          ap (string (0 ∷ bytes)) (place ∙ split) ∙ ap (before_first (λ byte. byte == 0)) is.stands ∙ before_zero name is.after all);
     }
 
 empty_held : (names : List (List ℕ)) → IsHeldAt names []
@@ -641,7 +641,7 @@ holds_each names =
 stands_after : (t n : List ℕ) (x : ℕ) → IsZeroFree n → n ≢ [] → StandsClosedAt (0 ∷ t) n x → Stands t n
 stands_after t n zero free some is = absurd (not_first n t is.0 free some is.1)
 stands_after t n (suc x) free some is =
-    record { front = take x t; behind = is.0; is = sym (take-append-drop x t) ∙ ap (λ (s : List ℕ). take x t ++ s) is.1 }
+    record { front = take x t; after = is.0; is = sym (take-append-drop x t) ∙ ap (λ (s : List ℕ). take x t ++ s) is.1 }
 
 each_stands : (names : List (List ℕ)) (t : List ℕ) → AreZeroFree names → AllByRecursion (λ n. (x : ℕ) × StandsClosedAt (0 ∷ t) n x) names →
     AllByRecursion (Stands t) (held names)

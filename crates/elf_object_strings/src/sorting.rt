@@ -78,7 +78,7 @@ fn without_equal_ends<'a, 'b>(a: &'a [u8], b: &'b [u8]) -> Option<(&'a [u8], &'b
     }
 }
 
-/// The index of a name in a list.
+/// The index of a name in a list, with the end of the name as a number.
 #[derive(Clone, Copy)]
 pub(crate) struct Numbered {
     pub(crate) index: usize,

@@ -215,7 +215,7 @@ module _ (o : ObjectValue) (never : (p : ℕ) → p < length o.sections → HasW
 
   right_members : HasRightMembers o
   right_members = record {
-    behind = λ p j within lt. above _ _ (λ le. never p within (j, lt, inl le));
+    members_after = λ p j within lt. above _ _ (λ le. never p within (j, lt, inl le));
     flagged = λ p j within lt lacks. never p within (j, lt, inr (inr (inr lacks)));
     no_group = λ p j within lt. false_of _ (λ is. never p within (j, lt, inr (inr (inl is))));
     once = once;
@@ -292,7 +292,7 @@ right_field s (group comdat signature members) has (inl others) = alone s WORD_S
 right_field s (group comdat signature members) has (inr other) = other has.entry_size
 
 right_member : (o : ObjectValue) (p : ℕ) → HasRightMembers o → p < length o.sections → HasWrongMembership o p → ⊥
-right_member o p has within (j, lt, inl le) = let before = has.behind p j within lt in omega arith
+right_member o p has within (j, lt, inl le) = let before = has.members_after p j within lt in omega arith
 right_member o p has within (j, lt, inr (inl (inl (k, before, same)))) =
     let one = has.once p k j within (omega arith) lt same in omega arith
 right_member o p has within (j, lt, inr (inl (inr (q, before, (k, ltk, same))))) =

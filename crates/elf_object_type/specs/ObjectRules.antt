@@ -283,7 +283,7 @@ EachMember o P = (p j : ℕ) → p < length o.sections → j < length (group_mem
 
 -- a group is before its members, which have the flag GROUP and are no groups; a section is a member once, and of one group
 pub record HasRightMembers (o : ObjectValue) : Type 0 where
-  pub behind : EachMember o (λ p m. p < m)
+  pub members_after : EachMember o (λ p m. p < m)
   pub flagged : EachMember o (λ p m. HasFlag (section_at o m).flags SHF_GROUP)
   pub no_group : EachMember o (λ p m. is_group (section_at o m).body ≡ false)
   pub once : (p j k : ℕ) → p < length o.sections → j < length (group_members o p) → k < length (group_members o p) →

@@ -1,8 +1,7 @@
 //! Short parts of a layout, gathered to go out together: a call of the writer may cost more than the bytes that it takes.
 //!
-//! They wait in a vector of 16 KiB: an object of 32,000 functions took 97,382 calls of the system, and takes 1,538. `BufWriter` of the
-//! library is not used: it tries an interrupted write again, and writes once more when it is dropped. Without memory for the vector the
-//! parts go out one by one.
+//! They wait in a vector of 16 KiB. `BufWriter` of the library is not used: it tries an interrupted write again, and writes once more when
+//! it is dropped. Without memory for the vector the parts go out one by one.
 ghost use Rattle.std.specs.Io.KnownBytes.{Appends, append_known};
 ghost use Rattle.std.specs.Prelude.{◌≡◌, ◌<◌, ◌≤◌, ◌-◌, ◌++◌, [], Err, IfErr, IfOk, IfSome, None, Ok, OnOk, Some, length, slice_index};
 ghost use Rattle.elf_object_layout.specs.Laid.{PlainSection, plain_sections};

@@ -28,6 +28,8 @@
 //! ```
 #![tactic(auto)]
 
+pub mod laws;
+
 pub use elf_table_all::Tables;
 pub use elf_table_hash::{Hash, HashFault, HashIter, build_hash, elf_hash};
 pub use elf_table_lists::{

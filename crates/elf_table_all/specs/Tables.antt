@@ -1,5 +1,5 @@
 -- All tables of a file: their rules, their verdicts, and what they refer to.
-use Rattle.std.specs.Prelude.{ℕ, Option, None, Some, List, [], ◌≡◌, Result, Ok, Err, ◌<◌, length, get_or, unwrap_or}
+use Rattle.std.specs.Prelude.{ℕ, Option, None, Some, List, [], ◌≡◌, Result, Ok, Err, ◌<◌, length, get_or, unwrap_or, ◌⊎◌}
 use Rattle.std.specs.BTreeMap.{get}
 use Rattle.std.specs.Ordering.{nat_cmp}
 use Rattle.elf_image_outline.specs.Image.{ImageValue}
@@ -16,7 +16,7 @@ use Rattle.elf_table_lists.specs.Notes.{note_section_rules}
 use Rattle.elf_table_lists.specs.Relocations.{relocation_section_rules}
 use Rattle.elf_table_symbols.specs.Sections.{Sections, count, section, kind_of, sections_of, content}
 use Rattle.elf_table_symbols.specs.SymbolView.{no_symbol_entry}
-use Rattle.elf_table_symbols.specs.Symbols.{symbol_table_rules, AreIndexTables, symbols_of}
+use Rattle.elf_table_symbols.specs.Symbols.{symbol_table_rules, AreIndexTables, index_table, symbols_of}
 use Rattle.elf_table_symbols.specs.declared.index_tables.IndexTables.{IndexTables}
 use Rattle.elf_table_symbols.specs.declared.table_section.TableKind.TheVariants.{SymbolTable, RelocationTable, SectionGroup, NoteSection}
 use Rattle.elf_table_symbols.specs.declared.table_section.TableKind.TheVariants.{DynamicArray, HashTable}
@@ -37,6 +37,25 @@ rules_of_kind (Some HashTable) f i = hash_table_rules f i
 -- none where the section holds no table
 unfoldable pub table_rules : Sections → ℕ → List {1} (Ruled ℕ)
 table_rules f i = rules_of_kind (kind_of (section f i).sh_type) f i
+
+-- The contents that the rules of a table look at. (gABI chapter 4, Sections: sh_link, SHT_SYMTAB_SHNDX.)
+
+-- the section that section i links to
+abbrev pub linked_of : Sections → ℕ → ℕ
+linked_of f i = (section f i).sh_link
+
+-- section j is the table in section i itself; or it links to j; or the section that it links to does; or j is the index table of one of
+-- these two
+abbrev pub IsLookedAt : Sections → ℕ → ℕ → Type 0
+IsLookedAt f i j =
+    (j ≡ i) ⊎ ((j ≡ linked_of f i) ⊎ ((j ≡ linked_of f (linked_of f i))
+    ⊎ ((index_table f i ≡ Some j) ⊎ (index_table f (linked_of f i) ≡ Some j))))
+
+-- two files have the same header and the same section headers, and the contents that the rules of the table in section i look at are equal
+pub record AreAlike (f g : Sections) (i : ℕ) : Type 0 where
+  pub header : f.header ≡ g.header
+  pub headers : f.headers ≡ g.headers
+  pub contents : (j : ℕ) → IsLookedAt f i j → content f j ≡ content g j
 
 -- A validation that may take memory, as a verdict.
 

@@ -11,7 +11,7 @@ ghost use Rattle.elf_table_symbols.specs.Sections.{Sections, sections_in, sectio
 ghost use Rattle.elf_table_symbols.specs.Symbols.{string_table_rules, entry, symbol_table_rules, word};
 ghost use Rattle.elf_table_lists.specs.Dynamic.{dynamic_entry};
 ghost use Rattle.elf_table_lists.specs.Notes.{note_at, note_end, note_offset, notes_in};
-ghost use Rattle.elf_table_all.specs.Tables.{table_rules};
+ghost use Rattle.elf_table_all.specs.Tables.{AreAlike, table_rules};
 
 /// The rules of a table look at the header, the section headers and the contents of an image; these are the ones that the bytes have for
 /// which the image is, edited or as read.
@@ -28,6 +28,12 @@ pub fn one_table_fault()
     ensures table { (f : Sections) (i : ℕ) (x y : Option (ℕ × ℕ)) → FirstIn (table_rules f i) x → FirstIn (table_rules f i) y → x ≡ y }
     ensures some_strings { (f : Sections) (i : ℕ) → ((x : Option (ℕ × ℕ)) → FirstIn (string_table_rules f i) x → ⊥) → ⊥ }
     ensures some_table { (f : Sections) (i : ℕ) → ((x : Option (ℕ × ℕ)) → FirstIn (table_rules f i) x → ⊥) → ⊥ }
+{}
+
+/// The verdict on a table depends on its own content and on those of the tables that it links to alone, beside the header and the section
+/// headers: in two files in which these are equal, the same rule is broken first, at the same offset, or none is.
+pub fn contents_looked_at()
+    ensures { (f g : Sections) (i : ℕ) (x : Option (ℕ × ℕ)) → AreAlike f g i → FirstIn (table_rules f i) x → FirstIn (table_rules g i) x }
 {}
 
 /// Entry j of a content is the record at the content's offset in the file and j times its size: of symbols, of the words of index

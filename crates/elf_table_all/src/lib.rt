@@ -24,5 +24,5 @@ pub use elf_table_lists::{
     is_string_tag, member, member_count,
 };
 pub use elf_table_symbols::{Place, Strings, Symbol, SymbolIter, Symbols, TableKind, rules};
-pub use laws::{entries_in_file, one_table_fault, sections_of_bytes};
+pub use laws::{contents_looked_at, entries_in_file, one_table_fault, sections_of_bytes};
 pub use tables::Tables;

@@ -1,7 +1,7 @@
 //! Hash tables (gABI chapter 5, Hash Table).
 ghost use Rattle.std.specs.Prelude.{◌≡◌, ◌↔◌, ◌<◌, ◌≤◌, ℕ, None, IsSome, length, get_or};
 ghost use Rattle.elf_image_rules.specs.Rows.{FirstIn};
-ghost use Rattle.elf_table_symbols.specs.Verdicts.{IsValidatedBehind, IsOnlyValidatedBehind, OfItsFile};
+ghost use Rattle.elf_table_symbols.specs.Verdicts.{IsValidatedAfter, IsOnlyValidatedAfter, OfItsFile};
 ghost use Rattle.elf_table_symbols.specs.Sections.{sections_of};
 ghost use Rattle.elf_table_hash.specs.HashView.{words_left, hash_of_section};
 ghost use Rattle.elf_table_hash.specs.HashRules.{hash_table_front, hash_table_rules};
@@ -54,9 +54,9 @@ impl<'a> Hash<'a> {
     pub fn new(alloc: Global, image: &Image<'a>, i: usize) -> Result<Hash<'a>, Fault>
         requires { i < length image.now.sections }
         ensures validated { let f = sections_of image.now in
-            IsValidatedBehind (hash_table_front f i) (hash_table_rules f i) (λ hash. hash ≡ hash_of_section f i) result }
+            IsValidatedAfter (hash_table_front f i) (hash_table_rules f i) (λ hash. hash ≡ hash_of_section f i) result }
         ensures file { OfItsFile image.now
-            (λ f. IsOnlyValidatedBehind (hash_table_front f i) (hash_table_rules f i) (λ hash. hash ≡ hash_of_section f i) result) }
+            (λ f. IsOnlyValidatedAfter (hash_table_front f i) (hash_table_rules f i) (λ hash. hash ≡ hash_of_section f i) result) }
     {
         image.prove_stands();
         let table = TableSection { image, index: i };

@@ -5,7 +5,7 @@ ghost use Rattle.elf_image_rules.specs.Rows.{fault_of, FirstIn};
 ghost use Rattle.elf_table_hash.specs.HashRules.{hash_parts_value, hash_word_past_end, word_rules, hash_parts, chain_rules, hash_rules};
 ghost use Rattle.elf_table_hash.specs.HashRules.{hash_table_front, hash_table_rules, symbol_off_chain};
 ghost use Rattle.elf_table_hash.specs.HashTable.{AreHashWords, bucket, bucket_of, hash_of, name_of, nbucket, nchain};
-ghost use Rattle.elf_table_symbols.specs.Verdicts.{IsTestedBehind};
+ghost use Rattle.elf_table_symbols.specs.Verdicts.{IsTestedAfter};
 ghost use Rattle.elf_table_symbols.specs.Symbols.{AreKnown, symbol_table_rules};
 ghost use Rattle.elf_table_symbols.specs.Sections.{content, own_rules, section, sections_of};
 ghost use Rattle.elf_table_hash.specs.ChainDepths.{IsDepthKnown};
@@ -78,7 +78,7 @@ pub fn validate_hash_table(
     requires known { AreKnown (sections_of table.image.now) symbols }
     requires own_hashes { hashes.old ≡ sections_of table.image.now }
     ensures validated { let f = sections_of table.entry.image.now in
-        IsTestedBehind (hash_table_front f table.entry.index) (hash_table_rules f table.entry.index) (λ _. ⊤) result }
+        IsTestedAfter (hash_table_front f table.entry.index) (hash_table_rules f table.entry.index) (λ _. ⊤) result }
     ensures image { hashes.new ≡ hashes.old }
 {
     validate_own_rules(table, TableKind::HashTable)?;
@@ -100,7 +100,7 @@ fn validate_hash(
         FirstIn (symbol_table_rules f (section f linked.table.index).sh_link) None }
     requires own_hashes { hashes.old ≡ sections_of linked.table.image.now }
     ensures validated { let f = sections_of linked.entry.table.image.now in let i = linked.entry.table.index in
-        IsTestedBehind (word_rules (hash_parts f i)) (hash_rules f i) (λ _. ⊤) result }
+        IsTestedAfter (word_rules (hash_parts f i)) (hash_rules f i) (λ _. ⊤) result }
     ensures image { hashes.new ≡ hashes.old }
 {
     let parts = HashParts::new(linked);

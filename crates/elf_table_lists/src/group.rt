@@ -3,7 +3,7 @@ ghost use Rattle.std.specs.Prelude.{◌≡◌, ◌<◌, IfErr, None, length, sli
 ghost use Rattle.elf_image_stream.specs.declared.fault.BytesFault.TheVariants.{OutOfMemory as NoRoom};
 ghost use Rattle.elf_image_stream.specs.declared.fault.Fault.TheVariants.{OutOfMemory};
 ghost use Rattle.elf_image_rules.specs.Rows.{FirstIn, fault_of};
-ghost use Rattle.elf_table_symbols.specs.Verdicts.{IsTestedBehind, IsValidatedBehind, IsOnlyValidatedBehind, OfItsFile};
+ghost use Rattle.elf_table_symbols.specs.Verdicts.{IsTestedAfter, IsValidatedAfter, IsOnlyValidatedAfter, OfItsFile};
 ghost use Rattle.elf_table_symbols.specs.Sections.{content, order, sections_of, Below, section};
 ghost use Rattle.elf_table_lists.specs.Groups.{group_section_front, group_section_rules, MembersAscend, group_of, IsUnfit, IsWrongMember};
 ghost use Rattle.elf_table_lists.specs.Groups.{group_front_rules, group_rules, member as member_of, member_count as member_count_of};
@@ -58,9 +58,9 @@ impl<'a> Group<'a> {
     pub fn new(alloc: Global, image: &Image<'a>, i: usize) -> Result<Group<'a>, Fault>
         requires { i < length image.now.sections }
         ensures validated { let f = sections_of image.now in
-            IsValidatedBehind (group_section_front f i) (group_section_rules f i) (λ group. group ≡ group_of f i) result }
+            IsValidatedAfter (group_section_front f i) (group_section_rules f i) (λ group. group ≡ group_of f i) result }
         ensures file { OfItsFile image.now
-            (λ f. IsOnlyValidatedBehind (group_section_front f i) (group_section_rules f i) (λ group. group ≡ group_of f i) result) }
+            (λ f. IsOnlyValidatedAfter (group_section_front f i) (group_section_rules f i) (λ group. group ≡ group_of f i) result) }
         ensures memory { let f = sections_of image.now in
             IfErr result (λ fault. fault ≡ OutOfMemory → ¬ MembersAscend (order f) (content f i)) }
     {
@@ -179,7 +179,7 @@ pub fn validate_group_section(
 ) -> Result<(), BytesFault>
     requires { AreKnown (sections_of table.image.now) symbols }
     ensures validated { let f = sections_of table.entry.image.now in
-        IsTestedBehind (group_section_front f table.entry.index) (group_section_rules f table.entry.index) (λ _. Unit {0}) result }
+        IsTestedAfter (group_section_front f table.entry.index) (group_section_rules f table.entry.index) (λ _. Unit {0}) result }
     ensures memory { let f = sections_of table.entry.image.now in
         IfErr result (λ fault. fault ≡ NoRoom → ¬ MembersAscend (order f) (content f table.entry.index)) }
 {
@@ -194,7 +194,7 @@ fn validate_group(alloc: Global, linked: LinkedTable<'_, '_>) -> Result<(), Byte
     requires typed { (section (sections_of linked.table.image.now) linked.table.index).sh_type ≡ SHT_GROUP }
     requires sized { (section (sections_of linked.table.image.now) linked.table.index).sh_size % WORD_SIZE ≡ 0 }
     ensures validated { let f = sections_of linked.entry.table.image.now in
-        IsTestedBehind (group_front_rules f linked.entry.table.index) (group_rules f linked.entry.table.index) (λ _. Unit {0}) result }
+        IsTestedAfter (group_front_rules f linked.entry.table.index) (group_rules f linked.entry.table.index) (λ _. Unit {0}) result }
     ensures memory { let f = sections_of linked.entry.table.image.now in
         IfErr result (λ fault. fault ≡ NoRoom → ¬ MembersAscend (order f) (content f linked.entry.table.index)) }
 {

@@ -13,41 +13,41 @@ use Rattle.elf_image_stream.specs.Faults.{bytes_fault}
 use Rattle.elf_image_stream.specs.declared.fault.BytesFault.TheVariants.{OutOfMemory, Rule}
 use Rattle.elf_image_stream.specs.declared.fault.BytesFault.{BytesFault}
 use Rattle.elf_image_stream.specs.declared.fault.Fault.{Fault}
-use Rattle.elf_table_symbols.specs.Verdicts.{IsTestedBehind, IsValidatedBehind, fault_in, verdicts_on}
+use Rattle.elf_table_symbols.specs.Verdicts.{IsTestedAfter, IsValidatedAfter, fault_in, verdicts_on}
 
 -- the fault that a run has found is handed on
 pub tested_handed : {T : Type 0} (front rules : List {1} (Ruled ℕ)) (Is : T → Type 0) (broken : Broken ℕ) (result : Result T BytesFault) →
     FirstIn rules (Some (broken.rule, broken.at)) → IsErrAnd result (λ fault. fault ≡ Rule broken.rule broken.at) →
-    IsTestedBehind front rules Is result
+    IsTestedAfter front rules Is result
 tested_handed front rules Is broken (Ok table) found same = absurd same
 tested_handed front rules Is broken (Err fault) found same =
-    subst (λ (f : BytesFault). IsTestedBehind front rules Is (Err f)) (sym same) found
+    subst (λ (f : BytesFault). IsTestedAfter front rules Is (Err f)) (sym same) found
 
 pub tested_stop : {T : Type 0} (front xs ys : List {1} (Ruled ℕ)) (Is : T → Type 0) (broken : Broken ℕ) (result : Result T BytesFault) →
     FirstIn xs (Some (broken.rule, broken.at)) → IsErrAnd result (λ fault. fault ≡ Rule broken.rule broken.at) →
-    IsTestedBehind front (xs ++ ys) Is result
+    IsTestedAfter front (xs ++ ys) Is result
 tested_stop front xs ys Is broken result found same =
     tested_handed front (xs ++ ys) Is broken result (FirstIn-sooner xs ys (broken.rule, broken.at) found) same
 
 -- a run before it without a fault
 pub tested_later : {T : Type 0} (xs front rules : List {1} (Ruled ℕ)) (Is : T → Type 0) (result : Result T BytesFault) → FirstIn xs None →
-    IsTestedBehind front rules Is result → IsTestedBehind (xs ++ front) (xs ++ rules) Is result
+    IsTestedAfter front rules Is result → IsTestedAfter (xs ++ front) (xs ++ rules) Is result
 tested_later xs front rules Is (Ok table) clean tested = (FirstIn-later xs rules None clean tested.0, tested.1)
 tested_later xs front rules Is (Err (Rule rule at)) clean tested = FirstIn-later xs rules (Some (rule, at)) clean tested
 tested_later xs front rules Is (Err OutOfMemory) clean tested = FirstIn-later xs front None clean tested
 
 -- a public call returns the fault of a call in memory as its own
 pub tested_told : {S T : Type 0} (front rules : List {1} (Ruled ℕ)) (Is : S → Type 0) (Says : T → Type 0) (fault : BytesFault)
-    (result : Result T Fault) → IsTestedBehind {T = S} front rules Is (Err fault) → IsErrAnd result (λ other. other ≡ bytes_fault fault) →
-    IsValidatedBehind front rules Says result
+    (result : Result T Fault) → IsTestedAfter {T = S} front rules Is (Err fault) → IsErrAnd result (λ other. other ≡ bytes_fault fault) →
+    IsValidatedAfter front rules Says result
 tested_told front rules Is Says fault (Ok table) tested same = absurd same
 tested_told {S} {T} front rules Is Says fault (Err other) tested same =
-    subst (λ (f : Fault). IsValidatedBehind {T = T} front rules Says (Err f)) (sym same) (told fault tested)
+    subst (λ (f : Fault). IsValidatedAfter {T = T} front rules Says (Err f)) (sym same) (of_fault fault tested)
   where
-    told : (fault : BytesFault) → IsTestedBehind {T = S} front rules Is (Err fault) →
-        IsValidatedBehind {T = T} front rules Says (Err (bytes_fault fault))
-    told (Rule rule at) found = found
-    told OutOfMemory clean = clean
+    of_fault : (fault : BytesFault) → IsTestedAfter {T = S} front rules Is (Err fault) →
+        IsValidatedAfter {T = T} front rules Says (Err (bytes_fault fault))
+    of_fault (Rule rule at) found = found
+    of_fault OutOfMemory clean = clean
 
 -- The verdicts on the first sections, as a list. Only tables that break a rule are kept, by section; so a verdict is the entry of its
 -- section, or none, and one more section adds one at the end.

@@ -24,24 +24,24 @@ IsValidated rules Is (Err OutOfMemory) = ⊥
 IsValidated rules Is (Err (Io at)) = ⊥
 
 -- of a call that takes memory: it is refused only where no rule of `front` is broken, which are tested before any is taken
-abbrev pub IsValidatedBehind : {T : Type 0} → List {1} (Ruled ℕ) → List {1} (Ruled ℕ) → (T → Type 0) → Result T Fault → Type 0
-IsValidatedBehind front rules Is (Ok table) = FirstIn rules None × Is table
-IsValidatedBehind front rules Is (Err (Rule rule at)) = FirstIn rules (Some (rule, at))
-IsValidatedBehind front rules Is (Err OutOfMemory) = FirstIn front None
-IsValidatedBehind front rules Is (Err (Io at)) = ⊥
+abbrev pub IsValidatedAfter : {T : Type 0} → List {1} (Ruled ℕ) → List {1} (Ruled ℕ) → (T → Type 0) → Result T Fault → Type 0
+IsValidatedAfter front rules Is (Ok table) = FirstIn rules None × Is table
+IsValidatedAfter front rules Is (Err (Rule rule at)) = FirstIn rules (Some (rule, at))
+IsValidatedAfter front rules Is (Err OutOfMemory) = FirstIn front None
+IsValidatedAfter front rules Is (Err (Io at)) = ⊥
 
 -- the same of a call that only looks at bytes in memory
-abbrev pub IsTestedBehind : {T : Type 0} → List {1} (Ruled ℕ) → List {1} (Ruled ℕ) → (T → Type 0) → Result T BytesFault → Type 0
-IsTestedBehind front rules Is (Ok table) = FirstIn rules None × Is table
-IsTestedBehind front rules Is (Err (Breaks rule at)) = FirstIn rules (Some (rule, at))
-IsTestedBehind front rules Is (Err NoRoom) = FirstIn front None
+abbrev pub IsTestedAfter : {T : Type 0} → List {1} (Ruled ℕ) → List {1} (Ruled ℕ) → (T → Type 0) → Result T BytesFault → Type 0
+IsTestedAfter front rules Is (Ok table) = FirstIn rules None × Is table
+IsTestedAfter front rules Is (Err (Breaks rule at)) = FirstIn rules (Some (rule, at))
+IsTestedAfter front rules Is (Err NoRoom) = FirstIn front None
 
 -- and no other rule and offset is the first that is broken
 abbrev pub IsOnlyValidated : {T : Type 0} → List {1} (Ruled ℕ) → (T → Type 0) → Result T Fault → Type 0
 IsOnlyValidated rules Is result = HaveOneFault rules × IsValidated rules Is result
 
-abbrev pub IsOnlyValidatedBehind : {T : Type 0} → List {1} (Ruled ℕ) → List {1} (Ruled ℕ) → (T → Type 0) → Result T Fault → Type 0
-IsOnlyValidatedBehind front rules Is result = HaveOneFault rules × IsValidatedBehind front rules Is result
+abbrev pub IsOnlyValidatedAfter : {T : Type 0} → List {1} (Ruled ℕ) → List {1} (Ruled ℕ) → (T → Type 0) → Result T Fault → Type 0
+IsOnlyValidatedAfter front rules Is result = HaveOneFault rules × IsValidatedAfter front rules Is result
 
 -- what is said of the sections that an image's bytes have, the one list that represents it
 abbrev pub OfItsFile : ImageValue → (Sections → Type 0) → Type 0

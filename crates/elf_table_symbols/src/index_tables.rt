@@ -1,7 +1,7 @@
 //! Index tables: the section indexes that the symbols of a table cannot hold themselves (gABI chapter 4, Sections:
 //! SHT_SYMTAB_SHNDX).
 ghost use Rattle.std.specs.Prelude.{◌≡◌, ◌<◌, length};
-ghost use Rattle.elf_table_symbols.specs.Symbols.{AreIndexTables, noted};
+ghost use Rattle.elf_table_symbols.specs.Symbols.{AreIndexTables, index_table as index_table_of, noted};
 ghost use Rattle.elf_table_symbols.specs.Sections.{sections_of};
 
 use elf_field::abi::*;
@@ -53,4 +53,11 @@ pub(crate) fn index_tables_of(image: &Image<'_>, i: usize) -> IndexTables
         }
     }
     tables
+}
+
+/// The first index table of the symbol table in section `i`, by the index of its section; `None` if there is none. Linear in the sections.
+pub fn index_table(image: &Image<'_>, i: usize) -> Option<usize>
+    ensures { result ≡ index_table_of (sections_of image.now) i }
+{
+    index_tables_of(image, i).first
 }

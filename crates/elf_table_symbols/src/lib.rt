@@ -23,7 +23,7 @@ mod symbols;
 mod table_section;
 mod verdicts;
 
-pub use index_tables::IndexTables;
+pub use index_tables::{IndexTables, index_table};
 pub use strings::{Strings, validate_linked_strings};
 pub use symbol_rules::{entry, validate_symbol_table, word};
 pub use symbols::{Place, Symbol, SymbolIter, Symbols, sound_symbols};

@@ -1,7 +1,7 @@
 -- The objects of the files are of numbers that the code's types hold, and keep their rules: so what holds of the executable of objects
 -- holds of theirs.
 use Rattle.std.proofs.Common.{ℕ, List, zero, suc, [], ◌∷◌, ◌<◌, arith, length}
-use Rattle.elf_exec.specs.Executable.{IsExecFile, IsExecutable, IsSoundLink}
+use Rattle.elf_exec.specs.Executable.{ExecFits, LoadsLink, IsSoundLink}
 use Rattle.elf_link_field.specs.declared.rule.RelocRule.{RelocRule}
 use Rattle.elf_link_files.specs.Files.{object_at}
 use Rattle.elf_link_files.specs.declared.fault.Options.{Options}
@@ -35,5 +35,5 @@ sound_link opt rules files fs m link = record {
 }
 
 pub executable : (opt : Options) (rules : List RelocRule) (files : List (List ℕ)) (fs : List ObjectValue) (m : LinkMapValue) (b : List ℕ) →
-    IsSoundFileLink opt rules files fs m → IsExecFile fs m rules b → IsExecutable fs m rules b
+    IsSoundFileLink opt rules files fs m → ExecFits fs m rules b → LoadsLink fs m rules b
 executable opt rules files fs m b link file = exec.executable fs m rules b (sound_link opt rules files fs m link) file

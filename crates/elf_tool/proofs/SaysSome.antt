@@ -5,7 +5,7 @@ use Rattle.std.specs.Prelude.{Option, None, Some}
 use Rattle.std.proofs.lemmas.Bool.{cases_lt}
 use Rattle.elf_exec.proofs.Public.{some_exec}
 use Rattle.elf_link_relocate.specs.Loads.{loads}
-use Rattle.elf_exec.specs.Executable.{ExecLaid, IsExecFile}
+use Rattle.elf_exec.specs.Executable.{ExecLaid, ExecFits}
 use Rattle.elf_field.specs.Abi.{PN_XNUM}
 use Rattle.elf_field.specs.Bytes.{IsBytes}
 use Rattle.elf_image_outline.specs.Image.{ImageValue, IsImage}
@@ -15,7 +15,7 @@ use Rattle.elf_image_rules.specs.Rules.{rules_in, MAX_LEN}
 use Rattle.elf_image_type.proofs.Public.{some_image}
 use Rattle.elf_link_field.specs.declared.rule.RelocRule.{RelocRule}
 use Rattle.elf_link_files.proofs.Public.{some_site}
-use Rattle.elf_link_files.specs.Rows.{FirstAmong}
+use Rattle.elf_link_files.specs.Rows.{FirstAt}
 use Rattle.elf_link_files.specs.declared.fault.Options.{Options}
 use Rattle.elf_link_files.specs.declared.site.Site.{Site}
 use Rattle.elf_link_map.proofs.Public.{some_each, some_link_fault, some_link_map}
@@ -115,7 +115,7 @@ some_relocation : (rules : Option (List RelocRule)) (opt : Options) (fs : List O
     FirstOfLink opt fs None → SaysSome (RelocationSays rules fs m)
 some_relocation None opt fs m is clean none = none Done (map_text fs m) refl
 some_relocation (Some rules) opt fs m is clean none = some_site (applied_entry_rules fs m rules) known where
-  known : (x : Option (ℕ × Site)) → ¬ FirstAmong (applied_entry_rules fs m rules) x
+  known : (x : Option (ℕ × Site)) → ¬ FirstAt (applied_entry_rules fs m rules) x
   known None sound =
       some_linked fs m rules (any_options fs m (opt, is, clean)) sound
       (λ l linked. none Done (map_text fs m ++ bytes_lines l) (l, linked, refl))
@@ -149,7 +149,7 @@ some_executable opt rules files fs m link none =
         | inl few ↦ elim (cases_lt MAX_LEN (length b)) [
           | inl long ↦ none (Refused TooLong) [] (inr (b, is, long), refl)
           | inr short ↦
-              let file : IsExecFile fs m rules b = record { laid = is; few = few; short = short } in
+              let file : ExecFits fs m rules b = record { laid = is; few = few; short = short } in
               none Done b (file, executable opt rules files fs m b link file)
         ]
       ]
@@ -165,7 +165,7 @@ pub some_link : (opt : Options) (rules : List RelocRule) (files : List (List ℕ
     SaysSome (FilesLink opt rules files)
 some_link opt rules files page bytes none = some_objects files bytes of_objects refused where
   relocated : (fs : List ObjectValue) → AreObjectFiles files fs → FirstOfLink opt fs None → (m : LinkMapValue) → IsLinkMap opt fs m →
-      (x : Option (ℕ × Site)) → ¬ FirstAmong (applied_entry_rules fs m rules) x
+      (x : Option (ℕ × Site)) → ¬ FirstAt (applied_entry_rules fs m rules) x
   relocated fs are clean m is None sound =
       some_executable opt rules files fs m (record { objects = are; linked = clean; map = is; page = page; relocated = sound })
       (λ verdict text says. none verdict text (inl (fs, are, inl (clean, (m, is, inl (sound, says))))))

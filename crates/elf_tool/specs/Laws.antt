@@ -2,7 +2,7 @@
 use Rattle.std.specs.Prelude.{◌<◌, ◌^◌, ℕ, List, None, [], ◌∷◌}
 use Rattle.elf_field.specs.Bytes.{IsBytes}
 use Rattle.elf_link_field.specs.declared.rule.RelocRule.{RelocRule}
-use Rattle.elf_link_files.specs.Rows.{FirstAmong}
+use Rattle.elf_link_files.specs.Rows.{FirstAt}
 use Rattle.elf_link_files.specs.declared.fault.Options.{Options}
 use Rattle.elf_link_map.specs.LinkMap.{FirstOfLink, IsLinkMap, LinkMapValue}
 use Rattle.elf_link_relocate.specs.Fields.{applied_entry_rules}
@@ -20,7 +20,7 @@ pub record IsSoundFileLink (opt : Options) (rules : List RelocRule) (files : Lis
   pub linked : FirstOfLink opt fs None
   pub map : IsLinkMap opt fs m
   pub page : opt.page < 2 ^ 64
-  pub relocated : FirstAmong (applied_entry_rules fs m rules) None
+  pub relocated : FirstAt (applied_entry_rules fs m rules) None
 
 -- What says something.
 

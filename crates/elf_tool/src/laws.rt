@@ -3,7 +3,7 @@
 //! that does nothing, and the program does without them. Begin with [`one_check`].
 ghost use Rattle.std.specs.Prelude.{◌≡◌, ◌<◌, ◌^◌, ℕ, List, Option};
 ghost use Rattle.elf_field.specs.Bytes.{IsBytes};
-ghost use Rattle.elf_exec.specs.Executable.{IsExecFile, IsExecutable};
+ghost use Rattle.elf_exec.specs.Executable.{ExecFits, LoadsLink};
 ghost use Rattle.elf_link_field.specs.declared.rule.RelocRule.{RelocRule};
 ghost use Rattle.elf_link_files.specs.declared.fault.Options.{Options};
 ghost use Rattle.elf_link_map.specs.LinkMap.{LinkMapValue};
@@ -56,7 +56,7 @@ pub fn one_link()
 /// named. Its loadable segments give an address a byte exactly if the memory of the link has that byte there. It is their only executable.
 pub fn executable()
     ensures { (opt : Options) (rules : List RelocRule) (files : List (List ℕ)) (fs : List ObjectValue) (m : LinkMapValue) (b : List ℕ) →
-        IsSoundFileLink opt rules files fs m → IsExecFile fs m rules b → IsExecutable fs m rules b }
+        IsSoundFileLink opt rules files fs m → ExecFits fs m rules b → LoadsLink fs m rules b }
 {}
 
 /// Bytes are the lines of at most one list of relocation rules, and at most one of their lines is reported as bad. If they are the lines of

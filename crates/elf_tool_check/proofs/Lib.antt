@@ -2,3 +2,4 @@
 pub mod EngineCalls
 pub mod LineInARow
 pub mod SaysOne
+pub mod Asked

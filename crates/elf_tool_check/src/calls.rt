@@ -38,7 +38,7 @@ pub enum Refusal {
         index: usize,
         entry: usize,
     },
-    /// The file to be written would be longer than 2^30 bytes.
+    /// The file to be written would be longer than 2^30 bytes, or an executable would have 0xffff segments or more.
     TooLong,
 }
 

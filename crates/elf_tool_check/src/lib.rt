@@ -9,7 +9,8 @@
 //! assert_eq!(rt; check(alloc, &mut header.as_slice(), &mut out), Ok(Verdict::Done));
 //! assert_eq!(rt; out.as_slice(), b"ok 64 0 0\n".as_slice());
 //! // A file that can't be opened ends the program with status 3, and its name is printed on standard error.
-//! assert_eq!(rt; unopened(OpenFault::Refused, "no-such-file", &mut err), Status::Failed);
+//! let ended = unopened(OpenFault::Refused, "no-such-file", &mut err);
+//! assert_eq!(rt; ended.status, Status::Failed);
 //! ```
 #![tactic(auto)]
 
@@ -21,8 +22,11 @@ mod opener;
 mod program;
 
 pub use calls::{Refusal, ToolFault, Verdict, read_input};
-pub use ending::{Status, fail, misused, refuse_words, status_of, unopened};
+pub use ending::{
+    Ended, Status, end, end_with_refusal, end_with_refusal_in, fail, misused, refuse_words,
+    unopened,
+};
 pub use engine::{check, ok_line, refused_line};
 pub use machine::{check_on_machine, words_of};
 pub use opener::{MachineFiles, OpenFault, Opener};
-pub use program::{check_file, run_check};
+pub use program::{check_file, check_to_end, run_check};

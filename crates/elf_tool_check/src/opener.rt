@@ -3,7 +3,7 @@ ghost use Rattle.std.specs.Prelude.{◌≡◌, ℕ, Bool, false, List, None, Opt
 ghost use Rattle.elf_image_stream.specs.Source.{no_failures};
 ghost use Rattle.elf_tool_check.specs.Ending.{IsOpenFault};
 
-use elf_image_stream::{Seeking, Source};
+use elf_image_stream::{Opened, Seeking, Source};
 use std::fs::{Files, OpenFile};
 use std::io::Read;
 use std::{fs, io};
@@ -22,6 +22,9 @@ pub enum OpenFault {
 
 /// What opens files by their names.
 pub trait Opener {
+    ghost use Rattle.std.specs.Prelude.{[], ◌∷◌};
+    ghost use Rattle.elf_tool_check.specs.Ending.{AsksInOrder};
+
     /// What an open file is read by.
     type Input: Read + Drop;
 
@@ -30,6 +33,9 @@ pub trait Opener {
 
     // The bytes of the file of this name, where they are known.
     ghost holds: { Self → List ℕ → Option (List ℕ) } = { λ _ _. None };
+
+    // The names that it was asked for, in order, where it reports them.
+    ghost asked: { Self → Option (List (List ℕ)) } = { λ _. None };
 
     // Whether a file of this name is known to open.
     ghost opens: { Self → List ℕ → Bool } = { λ _ _. false };
@@ -42,7 +48,8 @@ pub trait Opener {
             IfOk result (λ input. Self.Input.remaining input ≡ Some bytes)) }
         ensures fault { IfErr result (IsOpenFault (opens self.old name.now)) }
         ensures kept { holds self.new ≡ holds self.old }
-        ensures still { opens self.new ≡ opens self.old };
+        ensures still { opens self.new ≡ opens self.old }
+        ensures asked { AsksInOrder (asked self.old) (asked self.new) (name.now ∷ []) };
 
     /// A source of the file's bytes, no call of which has failed. It fails as [`reader`](Opener::reader) does, and what is known of the
     /// files stays.
@@ -52,7 +59,8 @@ pub trait Opener {
         ensures unfailed { IfOk result (λ source. Self.Seek.failures source ≡ no_failures) }
         ensures fault { IfErr result (IsOpenFault (opens self.old name.now)) }
         ensures kept { holds self.new ≡ holds self.old }
-        ensures still { opens self.new ≡ opens self.old };
+        ensures still { opens self.new ≡ opens self.old }
+        ensures asked { AsksInOrder (asked self.old) (asked self.new) (name.now ∷ []) };
 }
 
 /// The machine's files.
@@ -74,18 +82,18 @@ fn open<R: Files>(files: &R, name: &str) -> Result<R::File, OpenFault> {
 impl<'r, R: Files> Opener for MachineFiles<'r, R> {
     type Input = R::File;
 
-    type Seek = Seeking<R::File>;
+    type Seek = Seeking<Opened<R::File>>;
 
     fn reader(&mut self, name: &str) -> Result<R::File, OpenFault> {
         open(self.files, name)
     }
 
     // A folder has no bytes, and yet a length on some file systems: it is no source.
-    fn source(&mut self, name: &str) -> Result<Seeking<R::File>, OpenFault> {
+    fn source(&mut self, name: &str) -> Result<Seeking<Opened<R::File>>, OpenFault> {
         let file = open(self.files, name)?;
         match file.metadata() {
             Ok(metadata) if metadata.is_dir() => Err(OpenFault::Refused),
-            _ => Ok(Seeking::new(file)),
+            _ => Ok(Seeking::new(Opened(file))),
         }
     }
 }

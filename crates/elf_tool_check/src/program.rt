@@ -1,10 +1,10 @@
 //! The program that has the command `check` alone.
-ghost use Rattle.std.specs.Prelude.{◌≡◌, ℕ, List, MatchOption, map as map_list};
+ghost use Rattle.std.specs.Prelude.{◌≡◌, ℕ, [], ◌∷◌, List, MatchOption, map as map_list};
 ghost use Rattle.elf_tool_check.specs.Check.{IsChecked};
-ghost use Rattle.elf_tool_check.specs.Ending.{AsksFor, EndsCheck, EndsFile, code_of};
-ghost use Rattle.elf_tool_check.specs.declared.ending.Status.{Status as Ending};
+ghost use Rattle.elf_tool_check.specs.Ending.{AsksFor, AsksInOrder, EndsWith, EndsCheck, EndsFile, code_of};
+ghost use Rattle.elf_tool_check.specs.declared.ending.Ended.{Ended as EndedValue};
 
-use crate::ending::{Status, misused, status_of, unopened};
+use crate::ending::{Ended, end, misused, unopened};
 use crate::engine::check;
 use crate::opener::Opener;
 use std::alloc::Global;
@@ -24,21 +24,25 @@ pub fn run_check<S: AsStr, O: Opener, W: Write, E: Write>(
     out: &mut W,
     err: &mut E,
 ) -> u8
-    ensures { (status : Ending) × (result ≡ code_of status)
-        × EndsCheck (map_list S.text words.now) (O.holds files.old) (O.opens files.old) (W.contents out.old) (W.contents out.new) status }
+    ensures { (ended : EndedValue) × (result ≡ code_of ended.status)
+        × EndsCheck (map_list S.text words.now) (O.holds files.old) (O.opens files.old)
+        (AsksInOrder (O.asked files.old) (O.asked files.new))
+        (W.contents out.old) (W.contents out.new) (EndsWith (E.contents err.old) (E.contents err.new) ended) }
 {
-    ending(alloc, words, files, out, err) as u8
+    check_to_end(alloc, words, files, out, err).status as u8
 }
 
-fn ending<S: AsStr, O: Opener, W: Write, E: Write>(
+/// Runs the program as [`run_check`] does. Returns how it ended.
+pub fn check_to_end<S: AsStr, O: Opener, W: Write, E: Write>(
     alloc: Global,
     words: &[S],
     files: &mut O,
     out: &mut W,
     err: &mut E,
-) -> Status
-    ensures { EndsCheck (map_list S.text words.now) (O.holds files.old) (O.opens files.old) (W.contents out.old)
-        (W.contents out.new) result }
+) -> Ended
+    ensures { EndsCheck (map_list S.text words.now) (O.holds files.old) (O.opens files.old)
+        (AsksInOrder (O.asked files.old) (O.asked files.new))
+        (W.contents out.old) (W.contents out.new) (EndsWith (E.contents err.old) (E.contents err.new) result) }
 {
     match asked_file(words) {
         Some(file) => check_file(alloc, file, files, out, err),
@@ -77,12 +81,13 @@ pub fn check_file<O: Opener, W: Write, E: Write>(
     files: &mut O,
     out: &mut W,
     err: &mut E,
-) -> Status
-    ensures { EndsFile IsChecked (O.holds files.old file.now) (O.opens files.old file.now)
-        (W.contents out.old) (W.contents out.new) result }
+) -> Ended
+    ensures asked { AsksInOrder (O.asked files.old) (O.asked files.new) (file.now ∷ []) }
+    ensures ends { EndsFile IsChecked (O.holds files.old file.now) (O.opens files.old file.now) file.now
+        (W.contents out.old) (W.contents out.new) (EndsWith (E.contents err.old) (E.contents err.new) result) }
 {
     match files.reader(file) {
-        Ok(mut input) => status_of(check(alloc, &mut input, out), err),
+        Ok(mut input) => end(check(alloc, &mut input, out), err),
         Err(fault) => unopened(fault, file, err),
     }
 }

@@ -23,7 +23,7 @@ use Rattle.elf_link_files.specs.declared.fault.Options.{Options}
 use Rattle.elf_link_files.specs.declared.site.Site.{Site}
 use Rattle.elf_link_map.proofs.Public.{outputs_stand, parts_apart}
 use Rattle.elf_link_map.specs.LinkMap.{IsBinding, IsLinkMap, IsLinkPlan, IsMapOf, LinkMapValue, LinkPlan, bound_in, link_parts, no_name}
-use Rattle.elf_link_map.specs.Standing.{OutputsStand, StandApart, member_address, member_at, no_member, output_at, size_in}
+use Rattle.elf_link_map.specs.Standing.{OutputsStand, ArePlacedApart, member_address, member_at, no_member, output_at, size_in}
 use Rattle.elf_link_map.specs.declared.bindings.Binding.TheVariants.{Strong, Common, Weak, Zero}
 use Rattle.elf_link_map.specs.declared.bindings.Binding.{Binding}
 use Rattle.elf_link_names.proofs.Public.{names_once}
@@ -234,7 +234,7 @@ bound_first (b ∷ bs) q (suc k) lt is none =
 
 module _ (opt : Options) (fs : List ObjectValue) (m : LinkMapValue) (l : LinkPlan) (plan : IsLinkPlan opt fs l) (of : IsMapOf opt fs l m)
     (few : length fs ≤ 64) (small : (f : ℕ) → IsSmall (object_at fs f)) where
-  apart : StandApart fs m
+  apart : ArePlacedApart fs m
   apart = parts_apart opt fs m (l, plan, of)
 
   stand : OutputsStand fs m

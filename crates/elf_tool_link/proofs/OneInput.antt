@@ -7,7 +7,7 @@ use Rattle.elf_image_rules.specs.Rows.{FirstIn, Ruled}
 use Rattle.elf_image_rules.specs.Rules.{rules_in}
 use Rattle.elf_image_type.proofs.Public.{one_image}
 use Rattle.elf_link_files.proofs.Public.{one_found}
-use Rattle.elf_link_files.specs.Rows.{FirstAmong}
+use Rattle.elf_link_files.specs.Rows.{FirstAt}
 use Rattle.elf_link_files.specs.declared.fault.Options.{Options}
 use Rattle.elf_link_files.specs.declared.site.Site.{Site}
 use Rattle.elf_link_map.proofs.Public.{one_link_fault}
@@ -29,10 +29,10 @@ one_of_link opt fs x y first other = same_some x y (one_link_fault opt fs (Some 
 pub none_of_link : (opt : Options) (fs : List ObjectValue) (x : ℕ × Site) → FirstOfLink opt fs None → FirstOfLink opt fs (Some x) → ⊥
 none_of_link opt fs x sound first = none_some x (one_link_fault opt fs None (Some x) sound first)
 
-pub one_among : (rules : List {1} (Ruled Site)) (x y : ℕ × Site) → FirstAmong rules (Some x) → FirstAmong rules (Some y) → x ≡ y
+pub one_among : (rules : List {1} (Ruled Site)) (x y : ℕ × Site) → FirstAt rules (Some x) → FirstAt rules (Some y) → x ≡ y
 one_among rules x y first other = same_some x y (one_found rules (Some x) (Some y) first other)
 
-pub none_among : (rules : List {1} (Ruled Site)) (x : ℕ × Site) → FirstAmong rules None → FirstAmong rules (Some x) → ⊥
+pub none_among : (rules : List {1} (Ruled Site)) (x : ℕ × Site) → FirstAt rules None → FirstAt rules (Some x) → ⊥
 none_among rules x sound first = none_some x (one_found rules None (Some x) sound first)
 
 -- ---- a file

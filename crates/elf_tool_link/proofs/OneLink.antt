@@ -4,15 +4,15 @@ use Rattle.std.proofs.Common.{◌≡◌, ◌∙◌, ◌⊎◌, ℕ, List, [], ap
 use Rattle.std.specs.Prelude.{None, Some}
 use Rattle.elf_exec.proofs.Public.{one_exec}
 use Rattle.elf_exec.specs.ExecWriting.{IsTooLongFor}
-use Rattle.elf_exec.specs.Executable.{ExecLaid, IsExecFile}
+use Rattle.elf_exec.specs.Executable.{ExecLaid, ExecFits}
 use Rattle.elf_link_field.specs.declared.rule.RelocRule.{RelocRule}
-use Rattle.elf_link_files.specs.Rows.{FirstAmong}
+use Rattle.elf_link_files.specs.Rows.{FirstAt}
 use Rattle.elf_link_files.specs.declared.fault.Options.{Options}
 use Rattle.elf_link_files.specs.declared.site.Site.{Site}
 use Rattle.elf_link_map.proofs.Public.{one_link_map}
 use Rattle.elf_link_map.specs.LinkMap.{FirstOfLink, IsLinkMap, LinkMapValue}
 use Rattle.elf_link_relocate.specs.Fields.{applied_entry_rules}
-use Rattle.elf_link_relocate.specs.Linked.{IsMapOfSome}
+use Rattle.elf_link_relocate.specs.Linked.{IsSoundMap}
 use Rattle.elf_object_type.specs.Object.{ObjectValue}
 use Rattle.elf_tool_check.proofs.SaysOne.{of_holding, of_one, or_refused}
 use Rattle.elf_tool_check.specs.Engine.{SaysOne}
@@ -28,7 +28,7 @@ use Rattle.elf_tool_check.specs.declared.calls.Verdict.{Verdict}
 module _ (fs : List ObjectValue) (m : LinkMapValue) (rules : List RelocRule)
     (one : (a b : List ℕ) → ExecLaid fs m rules a → ExecLaid fs m rules b → a ≡ b) where
   -- what is written is not too long
-  not_long : (s : List ℕ) → IsExecFile fs m rules s → IsTooLongFor fs m rules → ⊥
+  not_long : (s : List ℕ) → ExecFits fs m rules s → IsTooLongFor fs m rules → ⊥
   not_long s exec (inl many) = (let few = exec.few in omega arith)
   not_long s exec (inr (b, also, long)) =
       let same : length b ≡ length s = ap (λ (c : List ℕ). length c) (one b s also exec.laid) in
@@ -67,11 +67,11 @@ or_rule : (IsFirst : ℕ × Site → Type 0) (Says : Verdict → List ℕ → Ty
     ((v : Verdict) (s : List ℕ) (x : ℕ × Site) → Says v s → IsFirst x → ⊥) → SaysOne (λ v s. Says v s ⊎ Refuses IsFirst v s)
 or_rule IsFirst Says says one = or_refused IsFirst verdict_at (λ x. []) Says (Refuses IsFirst) says one (refused IsFirst)
 
-of_map : (rules : List RelocRule) (fs : List ObjectValue) (m : LinkMapValue) → IsMapOfSome fs m → SaysOne (MapLinks rules fs m)
+of_map : (rules : List RelocRule) (fs : List ObjectValue) (m : LinkMapValue) → IsSoundMap fs m → SaysOne (MapLinks rules fs m)
 of_map rules fs m is =
     let entries = applied_entry_rules fs m rules in
-    or_rule (λ x. FirstAmong entries (Some x)) (λ v s. FirstAmong entries None × ExecSays fs m rules v s)
-    (of_holding (FirstAmong entries None) (ExecSays fs m rules) (λ sound. of_linked fs m rules (λ a b. one_exec fs m rules a b is sound)))
+    or_rule (λ x. FirstAt entries (Some x)) (λ v s. FirstAt entries None × ExecSays fs m rules v s)
+    (of_holding (FirstAt entries None) (ExecSays fs m rules) (λ sound. of_linked fs m rules (λ a b. one_exec fs m rules a b is sound)))
     (one_among entries) (λ v s x (sound, says). none_among entries x sound)
 
 of_objects : (opt : Options) (rules : List RelocRule) (fs : List ObjectValue) → SaysOne (ObjectsLink opt rules fs)

@@ -4,14 +4,14 @@ use Rattle.std.proofs.Common.{◌≡◌, ◌∙◌, ◌⊎◌, ◌+◌, ◌++◌
 use Rattle.std.specs.Prelude.{Option, None, Some, MatchOption}
 use Rattle.std.proofs.lemmas.List.{ext_get_or}
 use Rattle.elf_link_field.specs.declared.rule.RelocRule.{RelocRule}
-use Rattle.elf_link_files.specs.Rows.{FirstAmong}
+use Rattle.elf_link_files.specs.Rows.{FirstAt}
 use Rattle.elf_link_files.specs.declared.fault.Options.{Options}
 use Rattle.elf_link_files.specs.declared.site.Site.{Site}
 use Rattle.elf_link_map.proofs.Public.{one_link_map}
 use Rattle.elf_link_map.specs.LinkMap.{FirstOfLink, IsLinkMap, LinkMapValue}
 use Rattle.elf_link_relocate.proofs.Public.{any_options, one_byte}
 use Rattle.elf_link_relocate.specs.Fields.{applied_entry_rules}
-use Rattle.elf_link_relocate.specs.Linked.{AreBytesOf, HasLiveBits, IsLinked, IsMapOfSome, IsMemory, LinkedValue, bytes_at}
+use Rattle.elf_link_relocate.specs.Linked.{AreBytesOf, HasLiveBits, IsLinked, IsSoundMap, IsMemory, LinkedValue, bytes_at}
 use Rattle.elf_object_type.specs.Object.{ObjectValue}
 use Rattle.elf_tool_check.proofs.SaysOne.{of_answer, of_holding, of_one, or_refused, same_some}
 use Rattle.elf_tool_check.specs.Engine.{SaysOne}
@@ -26,7 +26,7 @@ use Rattle.elf_tool_check.specs.declared.calls.Verdict.{Verdict}
 -- Objects, their link map and relocation rules have at most one value of relocated bytes: the bytes of each live section are those of
 -- memory at its addresses, and memory has one byte at each address.
 
-module _ (fs : List ObjectValue) (m : LinkMapValue) (rules : List RelocRule) (is : IsMapOfSome fs m) where
+module _ (fs : List ObjectValue) (m : LinkMapValue) (rules : List RelocRule) (is : IsSoundMap fs m) where
   one_bytes : (f s : ℕ) (l : LinkedValue) (xs ys : List ℕ) → IsLinked fs m rules l → AreBytesOf fs m rules f s xs →
       AreBytesOf fs m rules f s ys → xs ≡ ys
   one_bytes f s l xs ys linked one other =
@@ -75,7 +75,7 @@ line_at x = link_refused_line x.0 x.1.file x.1.index x.1.entry
 module _ (fs : List ObjectValue) (m : LinkMapValue) (rules : List RelocRule) where
   abbrev Is : LinkedValue ⊎ (ℕ × Site) → Type 0
   Is (inl l) = IsLinked fs m rules l
-  Is (inr x) = FirstAmong (applied_entry_rules fs m rules) (Some x)
+  Is (inr x) = FirstAt (applied_entry_rules fs m rules) (Some x)
 
   abbrev verdict_of : LinkedValue ⊎ (ℕ × Site) → Verdict
   verdict_of (inl l) = Done
@@ -85,7 +85,7 @@ module _ (fs : List ObjectValue) (m : LinkMapValue) (rules : List RelocRule) whe
   text_of (inl l) = map_text fs m ++ bytes_lines l
   text_of (inr x) = line_at x
 
-  one_answer : IsMapOfSome fs m → (x y : LinkedValue ⊎ (ℕ × Site)) → Is x → Is y → x ≡ y
+  one_answer : IsSoundMap fs m → (x y : LinkedValue ⊎ (ℕ × Site)) → Is x → Is y → x ≡ y
   one_answer is (inl l) (inl n) one other = ap inl (one_linked fs m rules is l n one other)
   one_answer is (inl l) (inr y) one other = absurd (none_among (applied_entry_rules fs m rules) y one.sound other)
   one_answer is (inr x) (inl n) one other = absurd (none_among (applied_entry_rules fs m rules) x other.sound one)
@@ -99,7 +99,7 @@ module _ (fs : List ObjectValue) (m : LinkMapValue) (rules : List RelocRule) whe
   known (Refused (File file rule at)) s never = absurd never
   known (Refused TooLong) s never = absurd never
 
-of_relocation : (rules : Option (List RelocRule)) (fs : List ObjectValue) (m : LinkMapValue) → IsMapOfSome fs m →
+of_relocation : (rules : Option (List RelocRule)) (fs : List ObjectValue) (m : LinkMapValue) → IsSoundMap fs m →
     SaysOne (RelocationSays rules fs m)
 of_relocation None fs m is Done Done s t here there = (refl, here ∙ sym there)
 of_relocation None fs m is (Refused refusal) w s t here there = absurd here

@@ -3,11 +3,11 @@ use Rattle.std.specs.Prelude.{◌≡◌, ◌⊎◌, ℕ, List, [], None, Option,
 use Rattle.elf_object_type.specs.Object.{ObjectValue}
 use Rattle.elf_link_files.specs.declared.fault.Options.{Options}
 use Rattle.elf_link_files.specs.declared.site.Site.{Site}
-use Rattle.elf_link_files.specs.Rows.{FirstAmong}
+use Rattle.elf_link_files.specs.Rows.{FirstAt}
 use Rattle.elf_link_map.specs.LinkMap.{FirstOfLink, IsLinkMap, LinkMapValue}
 use Rattle.elf_link_relocate.specs.Fields.{applied_entry_rules}
 use Rattle.elf_link_field.specs.declared.rule.RelocRule.{RelocRule}
-use Rattle.elf_exec.specs.Executable.{IsExecFile, IsExecutable}
+use Rattle.elf_exec.specs.Executable.{ExecFits, LoadsLink}
 use Rattle.elf_exec.specs.ExecWriting.{IsTooLongFor}
 use Rattle.elf_tool_link.specs.ObjectFiles.{AreObjectFiles, IsFirstRefused}
 use Rattle.elf_tool_link.specs.declared.mapped.Unlinked.{Unlinked}
@@ -23,7 +23,7 @@ use Rattle.elf_tool_link.specs.declared.mapped.Unlinked.TheVariants as unlinked
 -- of objects, their map and relocation rules: their executable, which is an image that loads the memory of the link; or that it has too
 -- many segments or is too long for a file
 abbrev pub ExecSays : List ObjectValue → LinkMapValue → List RelocRule → Verdict → List ℕ → Type 0
-ExecSays fs m rules Done text = IsExecFile fs m rules text × IsExecutable fs m rules text
+ExecSays fs m rules Done text = ExecFits fs m rules text × LoadsLink fs m rules text
 ExecSays fs m rules (Refused (File file rule at)) text = ⊥
 ExecSays fs m rules (Refused (Link rule file index entry)) text = ⊥
 ExecSays fs m rules (Refused TooLong) text = IsTooLongFor fs m rules × (text ≡ [])
@@ -39,8 +39,8 @@ RuleRefuses IsFirst (Refused TooLong) text = ⊥
 -- of objects and their link map: none of rules 12 to 16 is broken, and what is said of their executable; or the first one that is broken
 abbrev pub MapLinks : List RelocRule → List ObjectValue → LinkMapValue → Verdict → List ℕ → Type 0
 MapLinks rules fs m verdict text =
-    (FirstAmong (applied_entry_rules fs m rules) None × ExecSays fs m rules verdict text)
-    ⊎ RuleRefuses (λ rule site. FirstAmong (applied_entry_rules fs m rules) (Some (rule, site))) verdict text
+    (FirstAt (applied_entry_rules fs m rules) None × ExecSays fs m rules verdict text)
+    ⊎ RuleRefuses (λ rule site. FirstAt (applied_entry_rules fs m rules) (Some (rule, site))) verdict text
 
 -- of objects: no rule of the link is broken, and what is said of their link map; or the first one that is
 abbrev pub ObjectsLink : Options → List RelocRule → List ObjectValue → Verdict → List ℕ → Type 0
@@ -55,7 +55,7 @@ FileRefuses files (Refused (File file rule at)) text = IsFirstRefused files file
 FileRefuses files (Refused (Link rule file index entry)) text = ⊥
 FileRefuses files (Refused TooLong) text = ⊥
 
--- of files: what is said of the objects that they are; or of the first one that is none
+-- what `link` reports of files: of the objects that they are, or of the first file that is no object
 abbrev pub FilesLink : Options → List RelocRule → List (List ℕ) → Verdict → List ℕ → Type 0
 FilesLink opt rules files verdict text =
     ((fs : List ObjectValue) × AreObjectFiles files fs × ObjectsLink opt rules fs verdict text) ⊎ FileRefuses files verdict text

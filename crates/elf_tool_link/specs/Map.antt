@@ -6,7 +6,7 @@ use Rattle.std.specs.List.{flat_map, range_with_len}
 use Rattle.std.specs.Io.KnownBytes.{Appends, Keeps}
 use Rattle.elf_link_field.specs.declared.rule.RelocRule.{RelocRule}
 use Rattle.elf_link_files.specs.Files.{mark, object_at}
-use Rattle.elf_link_files.specs.Rows.{FirstAmong}
+use Rattle.elf_link_files.specs.Rows.{FirstAt}
 use Rattle.elf_link_files.specs.declared.fault.Options.{Options}
 use Rattle.elf_link_map.specs.LinkMap.{LinkMapValue, FirstOfLink, IsLinkMap}
 use Rattle.elf_link_map.specs.Standing.{size_in}
@@ -150,7 +150,7 @@ RelocationSays None fs m Done text = text ≡ map_text fs m
 RelocationSays (Some rules) fs m Done text =
     (l : LinkedValue) × IsLinked fs m rules l × (text ≡ map_text fs m ++ bytes_lines l)
 RelocationSays (Some rules) fs m (Refused (Link rule file index entry)) text =
-    FirstAmong (applied_entry_rules fs m rules) (Some (rule, record { file = file; index = index; entry = entry }))
+    FirstAt (applied_entry_rules fs m rules) (Some (rule, record { file = file; index = index; entry = entry }))
     × (text ≡ link_refused_line rule file index entry)
 RelocationSays rules fs m verdict text = ⊥
 
@@ -174,7 +174,7 @@ FilesRefuse files (Refused (File file rule at)) text = IsFirstRefused files file
 FilesRefuse files (Refused (Link rule file index entry)) text = ⊥
 FilesRefuse files (Refused TooLong) text = ⊥
 
--- of files: what is said of the objects that they are; or of the first one that is none
+-- what `map` reports of files: of the objects that they are, or of the first file that is no object
 abbrev pub MapSays : Options → Option (List RelocRule) → List (List ℕ) → Verdict → List ℕ → Type 0
 MapSays opt rules files verdict text =
     ((fs : List ObjectValue) × AreObjectFiles files fs × LinkSays opt rules fs verdict text) ⊎ FilesRefuse files verdict text
@@ -184,9 +184,9 @@ abbrev pub IsThis : Verdict → List ℕ → Verdict → List ℕ → Type 0
 IsThis verdict text said lines = (said ≡ verdict) × (lines ≡ text)
 
 -- what is refused is said by its line, and the verdict carries it
-abbrev pub TellsUnlinked : Unlinked → Verdict → List ℕ → Type 0
-TellsUnlinked (unlinked.Refused refusal) = IsThis (Refused refusal) (refusal_line refusal)
-TellsUnlinked unlinked.OutOfMemory = λ said text. ⊥
+abbrev pub SaysUnlinked : Unlinked → Verdict → List ℕ → Type 0
+SaysUnlinked (unlinked.Refused refusal) = IsThis (Refused refusal) (refusal_line refusal)
+SaysUnlinked unlinked.OutOfMemory = λ said text. ⊥
 
 -- What `map` writes. The lines on what is found are written as they are made, and may be more than a count of 64 bits can report.
 

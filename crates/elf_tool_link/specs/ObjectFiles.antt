@@ -31,7 +31,7 @@ abbrev pub IsRefusedFile : List ℕ → ℕ → ℕ → Type 0
 IsRefusedFile b rule at =
     IsFault b (Some (rule, at)) ⊎ ((v : ImageValue) × IsImage v b × FirstIn (file_rules (sections_of v)) (Some (rule, at)))
 
--- a file gives no object: it is refused, or memory was
+-- a file gives no object: it is refused, or an allocation failed
 abbrev pub IsObjectFileFault : List ℕ → BytesFault → Type 0
 IsObjectFileFault b (fault.Rule rule at) = IsRefusedFile b rule at
 IsObjectFileFault b fault.OutOfMemory = Unit {0}
@@ -62,8 +62,8 @@ IsFileFault files OutOfMemory = Unit {0}
 -- What files are as objects that are linked.
 
 -- the objects are those of the files, no rule of the link is broken, and this is their map
-abbrev pub IsMapOfFiles : Options → List (List ℕ) → MappedValue → Type 0
-IsMapOfFiles opt files mapped =
+abbrev pub IsSoundFileMap : Options → List (List ℕ) → MappedValue → Type 0
+IsSoundFileMap opt files mapped =
     AreObjectFiles files mapped.objects × IsLinkMap opt mapped.objects mapped.map × FirstOfLink opt mapped.objects None
 
 -- the first file that is refused, or of objects the first rule of the link that is broken; or an allocation failed

@@ -1,7 +1,7 @@
 -- What is said of the link of files, without what it makes.
 use Rattle.std.specs.Prelude.{◌≡◌, ◌⊎◌, ℕ, List, None, Option, Some}
 use Rattle.elf_link_field.specs.declared.rule.RelocRule.{RelocRule}
-use Rattle.elf_link_files.specs.Rows.{FirstAmong}
+use Rattle.elf_link_files.specs.Rows.{FirstAt}
 use Rattle.elf_link_files.specs.declared.fault.Options.{Options}
 use Rattle.elf_link_files.specs.declared.site.Site.{Site}
 use Rattle.elf_link_map.specs.LinkMap.{FirstOfLink, IsLinkMap, LinkMapValue}
@@ -15,7 +15,7 @@ use Rattle.elf_tool_link.specs.ObjectFiles.{AreObjectFiles, IsFirstRefused}
 -- of objects and their link map: the first of rules 12 to 16 broken, or none; without relocation rules none of these is tested
 abbrev pub FirstOfEntries : Option (List RelocRule) → List ObjectValue → LinkMapValue → Option (ℕ × Site) → Type 0
 FirstOfEntries None fs m broken = broken ≡ None
-FirstOfEntries (Some rules) fs m broken = FirstAmong (applied_entry_rules fs m rules) broken
+FirstOfEntries (Some rules) fs m broken = FirstAt (applied_entry_rules fs m rules) broken
 
 -- a verdict on a link that says so of it: no rule is broken, or this one first and at this site
 abbrev pub SaysFirst : (Option (ℕ × Site) → Type 0) → Verdict → Type 0

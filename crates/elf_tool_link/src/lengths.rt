@@ -1,6 +1,6 @@
 //! How long what `map` and `link` write is, beside its verdict: nothing of it is written or kept.
 ghost use Rattle.std.specs.Prelude.{◌≡◌, MatchResult, map as map_list, option_copied};
-ghost use Rattle.elf_link_relocate.specs.Linked.{IsReadyLink};
+ghost use Rattle.elf_link_relocate.specs.Linked.{IsSoundLinked};
 ghost use Rattle.elf_tool_check.specs.Engine.{HasLength, IsMeasured};
 ghost use Rattle.elf_tool_check.specs.declared.calls.ToolFault.TheVariants.{OutOfMemory};
 ghost use Rattle.elf_tool_link.specs.Link.{ExecSays, FilesLink, MapLinks, unlinked_length};
@@ -70,7 +70,7 @@ fn mapped_length(
 }
 
 fn linked_length(alloc: Global, linked: &Linked<'_, '_>) -> Result<(Verdict, u64), ToolFault>
-    requires { IsReadyLink linked.now }
+    requires { IsSoundLinked linked.now }
     ensures { MatchResult result (HasLength (ExecSays linked.now.objects linked.now.map linked.now.rules)) (λ fault. fault ≡ OutOfMemory) }
 {
     match exec_length(alloc, linked) {

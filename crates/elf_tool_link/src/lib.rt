@@ -1,9 +1,10 @@
 //! The engines of `elfmap map` and `elfmap link`, over any readers and any writer. [`map`] reads each file whole, links them without
 //! writing a linked file, and writes where each part would be, and with relocation rules the bytes of each; [`map_files`] has the files'
 //! bytes. [`link`] reads each file whole, links them, and writes the executable; [`link_files`] has the files' bytes; [`link_verdict`] says
-//! of these whether they link. [`map_length`] and [`link_length`] say how long what is written of them is.
+//! of these whether they link. [`map_length`] and [`link_length`] say how long what is written of them is. [`record_of`] finds the record
+//! that a broken rule of the link is about, and [`first_definition`] the definition before one that is the second.
 //!
-//! Both begin with `mapped_files`. It returns the objects with their link map, or what is refused, in an `Unlinked`.
+//! `map` and `link` begin with `mapped_files`. It returns the objects with their link map, or what is refused, in an `Unlinked`.
 //!
 //! ```
 //! // `bytes` are those of an object file. A base that is no multiple of the page is the first of the link's rules.
@@ -15,6 +16,7 @@
 //! ```
 #![tactic(auto)]
 
+mod definitions;
 mod inputs;
 pub mod laws;
 mod lengths;
@@ -23,11 +25,14 @@ mod map_lines;
 mod map_text;
 mod mapped;
 mod mapping;
+mod places;
 mod verdicts;
 
+pub use definitions::first_definition;
 pub use elf_link_map::Options;
 pub use elf_tool_check::{Refusal, ToolFault, Verdict};
 pub use lengths::{link_length, map_length};
 pub use linking::{link, link_files};
 pub use mapping::{map, map_files};
+pub use places::{RecordPlace, record_of};
 pub use verdicts::link_verdict;

@@ -1,7 +1,7 @@
 //! `link`: the executable of files.
 ghost use Rattle.std.specs.Prelude.{◌≡◌, ℕ, List, map as map_list};
 ghost use Rattle.elf_tool_check.specs.Engine.{Prints, SaysOne};
-ghost use Rattle.elf_link_relocate.specs.Linked.{IsReadyLink};
+ghost use Rattle.elf_link_relocate.specs.Linked.{IsSoundLinked};
 ghost use Rattle.elf_tool_link.specs.Link.{ExecSays, FilesLink, IsLinkCall, MapLinks, unlinked_verdict};
 
 use crate::inputs::read_inputs;
@@ -80,7 +80,7 @@ fn link_relocated<W: Write>(
     linked: &Linked<'_, '_>,
     writer: &mut W,
 ) -> Result<Verdict, ToolFault>
-    requires { IsReadyLink linked.now }
+    requires { IsSoundLinked linked.now }
     ensures { Prints (ExecSays linked.now.objects linked.now.map linked.now.rules) (W.contents writer.old) (W.contents writer.new) result }
 {
     match write_exec(alloc, linked, writer) {

@@ -1,6 +1,6 @@
 //! The link map of files.
 ghost use Rattle.std.specs.Prelude.{◌≡◌, IfOk, MatchResult, map};
-ghost use Rattle.elf_tool_link.specs.ObjectFiles.{AreObjectFiles, IsFileFault, IsObjectFile, IsObjectFileFault, IsMapOfFiles, IsUnlinked};
+ghost use Rattle.elf_tool_link.specs.ObjectFiles.{AreObjectFiles, IsFileFault, IsObjectFile, IsObjectFileFault, IsSoundFileMap, IsUnlinked};
 
 use elf_image_stream::BytesFault;
 use elf_image_type::parse_bytes;
@@ -122,7 +122,7 @@ pub fn mapped_files<'a>(
     files: &[&'a [u8]],
     options: &Options<'_>,
 ) -> Result<Mapped<'a>, Unlinked>
-    ensures { MatchResult result (IsMapOfFiles options.now (map (λ f. f.now) files.now))
+    ensures { MatchResult result (IsSoundFileMap options.now (map (λ f. f.now) files.now))
         (IsUnlinked options.now (map (λ f. f.now) files.now)) }
 {
     let objects = objects_of(alloc, files)?;

@@ -1,7 +1,7 @@
 //! `map`: where the sections and names of files are in their link.
 ghost use Rattle.std.specs.Prelude.{◌≡◌, ◌≤◌, ◌++◌, ℕ, List, length, None, Some, option_copied, map as map_list};
 ghost use Rattle.elf_tool_link.specs.Map.{bytes_lines, CountsLine, CountsMap, IsMapped, IsMappedExactly, IsThis, MapSays, PrintsMap};
-ghost use Rattle.elf_tool_link.specs.Map.{RelocationSays, TellsUnlinked, map_text, refusal_line};
+ghost use Rattle.elf_tool_link.specs.Map.{RelocationSays, SaysUnlinked, map_text, refusal_line};
 ghost use Rattle.elf_tool_check.specs.Engine.{Prints, SaysOne};
 
 use crate::inputs::read_inputs;
@@ -83,7 +83,7 @@ pub(crate) fn map_counted<W: Write>(
 {
     match mapped_files(alloc, files, options) {
         Ok(mapped) => answer_map(alloc, &mapped, rules, writer),
-        Err(unlinked) => tell_unlinked(alloc, unlinked, writer),
+        Err(unlinked) => write_unlinked(alloc, unlinked, writer),
     }
 }
 
@@ -98,7 +98,7 @@ fn answer_map<W: Write>(
 {
     match rules {
         Some(rules) => answer_relocations(alloc, mapped, rules, writer),
-        None => tell_map(alloc, mapped, writer),
+        None => write_map(alloc, mapped, writer),
     }
 }
 
@@ -112,13 +112,13 @@ fn answer_relocations<W: Write>(
         (W.contents writer.new) result }
 {
     match mapped.relocated(alloc, rules) {
-        Ok(linked) => tell_relocated(alloc, mapped, &linked, writer),
-        Err(fault) => tell_unlinked(alloc, fault.into(), writer),
+        Ok(linked) => write_relocated(alloc, mapped, &linked, writer),
+        Err(fault) => write_unlinked(alloc, fault.into(), writer),
     }
 }
 
 // Writes the lines of a link map, after its last memory is taken.
-fn tell_map<W: Write>(
+fn write_map<W: Write>(
     alloc: Global,
     mapped: &Mapped<'_>,
     writer: &mut W,
@@ -132,7 +132,7 @@ fn tell_map<W: Write>(
 }
 
 // Writes them, and those of the relocated bytes after them.
-fn tell_relocated<W: Write>(
+fn write_relocated<W: Write>(
     alloc: Global,
     mapped: &Mapped<'_>,
     linked: &Linked<'_, '_>,
@@ -149,21 +149,21 @@ fn tell_relocated<W: Write>(
 }
 
 // Says why files are not linked.
-fn tell_unlinked<W: Write>(
+fn write_unlinked<W: Write>(
     alloc: Global,
     unlinked: Unlinked,
     writer: &mut W,
 ) -> Result<(Verdict, u64), ToolFault>
-    ensures { CountsLine (TellsUnlinked unlinked) (W.contents writer.old) (W.contents writer.new) result }
+    ensures { CountsLine (SaysUnlinked unlinked) (W.contents writer.old) (W.contents writer.new) result }
 {
     match unlinked {
-        Unlinked::Refused(refusal) => tell_refusal(alloc, refusal, writer),
+        Unlinked::Refused(refusal) => write_refusal(alloc, refusal, writer),
         Unlinked::OutOfMemory => Err(ToolFault::OutOfMemory),
     }
 }
 
 // Says what is refused.
-fn tell_refusal<W: Write>(
+fn write_refusal<W: Write>(
     alloc: Global,
     refusal: Refusal,
     writer: &mut W,
@@ -172,11 +172,11 @@ fn tell_refusal<W: Write>(
 {
     let mut text = Vec::new(alloc);
     push_refusal_line(&mut text, refusal)?;
-    tell(Verdict::Refused(refusal), &text, writer)
+    write_text(Verdict::Refused(refusal), &text, writer)
 }
 
 // Writes what is said, and returns its verdict and its length.
-fn tell<W: Write>(
+fn write_text<W: Write>(
     verdict: Verdict,
     text: &[u8],
     writer: &mut W,

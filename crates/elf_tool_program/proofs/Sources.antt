@@ -1,6 +1,6 @@
 -- Files that are opened as sources.
 use Rattle.std.proofs.Common.{◌≡◌, ◌∙◌, ℕ, ◌+◌, ◌<◌, List, [], ◌∷◌, ◌++◌, None, Option, Some, IfSome, ap, arith, get_or, inl, inr, length}
-use Rattle.std.proofs.Common.{subst, sym, Result, Ok, Err, refl}
+use Rattle.std.proofs.Common.{subst, suc, sym, take, Bool, Result, Ok, Err, refl}
 use Rattle.std.proofs.Math.Seq.{get_or-append_seam}
 use Rattle.std.proofs.lemmas.Bool.{cases_lt}
 use Rattle.std.proofs.lemmas.List.{get_or_append_left}
@@ -17,7 +17,13 @@ use Rattle.elf_tool_program.specs.CheckSource.{IsCheckLine, IsScanned, SourceSay
 use Rattle.elf_tool_check.proofs.SaysOne.{one_check}
 use Rattle.elf_tool_check.specs.Engine.{IsCutAt, IsOneReport, Prints}
 use Rattle.elf_tool_check.specs.FileLines.{ok_line}
+use Rattle.clap.specs.Walk.{Text}
+use Rattle.elf_tool_check.specs.Ending.{AsksInOrder}
+use Rattle.elf_tool_check.proofs.Asked.{asks_more}
 use Rattle.elf_tool_check.specs.declared.calls.ToolFault.TheVariants.{Write}
+use Rattle.elf_tool_check.specs.declared.calls.ToolFault.{ToolFault}
+use Rattle.elf_tool_check.specs.declared.ending.Status.{Status}
+use Rattle.elf_tool_program.specs.Program.{CallOnFiles, EndsFiles}
 use Rattle.elf_tool_check.specs.declared.calls.Verdict.TheVariants.{Done}
 use Rattle.elf_tool_check.specs.declared.calls.Verdict.{Verdict}
 
@@ -39,6 +45,16 @@ bytes_more holds names inputs k input same before next j below = elim (cases_lt 
       subst (λ (n : ℕ). IfSome (holds (get_or names n [])) (λ bytes. get_or (inputs ++ input ∷ []) n None ≡ Some bytes)) here
       (subst (λ (o : Option (List ℕ)). IfSome (holds (get_or names k [])) (λ bytes. o ≡ Some bytes)) (sym at) next)
 ]
+
+-- what is said of files that are opened after others, of all names from the first on
+pub ends_after : (printed : Result Verdict ToolFault → List ℕ) (call : CallOnFiles) (holds : Text → Option (List ℕ)) (opens : Text → Bool)
+    (a b c : Option (List Text)) (first names : List Text) (old new : Option (List ℕ)) (ends : Status → List ℕ → Type 0) →
+    AsksInOrder a b first → EndsFiles printed call holds opens (AsksInOrder b c) names old new ends →
+    EndsFiles printed call holds opens (λ more. AsksInOrder a c (first ++ more)) names old new ends
+ends_after printed call holds opens a b c first names old new ends before (inl (inputs, rests, answer, opened, just, called, end)) =
+    inl (inputs, rests, answer, opened, asks_more a b c first names before just, called, end)
+ends_after printed call holds opens a b c first names old new ends before (inr (unopened, fault, just, end, kept)) =
+    inr (unopened, fault, asks_more a b c first (take (suc unopened.position) names) before just, end, kept)
 
 -- What is printed of a source that was scanned is what `check` prints of its bytes, if the source has known bytes. The outline is an image
 -- with their contents, or the rule is the first that they break, so the line is the same. If the writer fails, the first bytes of that line

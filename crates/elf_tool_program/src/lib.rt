@@ -19,7 +19,8 @@ mod scan_check;
 
 pub use elf_link_field::{Form, Range, RelocRule, Width};
 pub use elf_tool_check::{
-    MachineFiles, OpenFault, Opener, Refusal, Status, ToolFault, Verdict, check, refuse_words,
+    Ended, MachineFiles, OpenFault, Opener, Refusal, Status, ToolFault, Verdict, check,
+    refuse_words,
 };
 pub use elf_tool_link::{Options, link, map};
 pub use elf_tool_rewrite::rewrite;
@@ -27,5 +28,5 @@ pub use elf_tool_rule_file::{RulesFault, read_rules};
 pub use elf_tool_show::show;
 pub use elf_tool_words::{Request, WordsFault, read_words};
 pub use machine::run_on_machine;
-pub use program::run;
+pub use program::{run, run_to_end};
 pub use scan_check::check_source;

@@ -1,5 +1,6 @@
 //! Several files by name.
-ghost use Rattle.std.specs.Prelude.{IfErr, IfOk, map, ◌≡◌};
+ghost use Rattle.std.specs.Prelude.{IfErr, IfOk, OnOk, map, suc, take, [], ◌∷◌, ◌≡◌};
+ghost use Rattle.elf_tool_check.specs.Ending.{AsksInOrder};
 ghost use Rattle.elf_tool_program.specs.Program.{AreOpened, IsUnopened, GivesNoRules, GivesRules, ReadsNoRules, ReadsRules};
 
 use elf_image_rules::MAX_LEN;
@@ -26,6 +27,9 @@ pub(crate) fn open_all<O: Opener>(
     ensures ok { IfOk result (λ inputs.
         AreOpened (O.holds files.old) (map (λ name. name.now) names.now) (map O.Input.remaining inputs.items)) }
     ensures err { IfErr result (IsUnopened (O.opens files.old) (map (λ name. name.now) names.now)) }
+    ensures asked { OnOk result (AsksInOrder (O.asked files.old) (O.asked files.new) (map (λ name. name.now) names.now)) }
+    ensures stopped { IfErr result (λ unopened.
+        AsksInOrder (O.asked files.old) (O.asked files.new) (take (suc unopened.position) (map (λ name. name.now) names.now))) }
 {
     let mut inputs = Vec::new(alloc);
     for k in 0..names.len() {
@@ -69,6 +73,7 @@ pub(crate) fn rules_of<O: Opener>(
     ensures err { IfErr result (GivesNoRules (O.holds files.old name.now) (O.opens files.old name.now)) }
     ensures kept { O.holds files.new ≡ O.holds files.old }
     ensures still { O.opens files.new ≡ O.opens files.old }
+    ensures asked { AsksInOrder (O.asked files.old) (O.asked files.new) (name.now ∷ []) }
 {
     match files.reader(name) {
         Ok(mut input) => rules_from(alloc, &mut input),

@@ -1,24 +1,24 @@
 //! The whole program: from its command line to its exit status.
-ghost use Rattle.std.specs.Prelude.{◌≡◌, ◌≤◌, length, map as map_list, option_copied};
-ghost use Rattle.elf_tool_check.specs.Ending.{EndsFile, code_of, ending_of};
-ghost use Rattle.elf_tool_check.specs.declared.ending.Status.{Status as Ending};
+ghost use Rattle.std.specs.Prelude.{◌≡◌, ◌≤◌, [], ◌∷◌, length, map as map_list, option_copied};
+ghost use Rattle.elf_tool_check.specs.Ending.{AsksInOrder, EndsWith, EndsFile, EndsFileBy, code_of, printed_of, printed_refusal};
+ghost use Rattle.elf_tool_check.specs.Ending.{printed_refusal_in};
+ghost use Rattle.elf_tool_check.specs.declared.ending.Ended.{Ended as EndedValue};
 ghost use Rattle.elf_tool_program.specs.CheckSource.{IsSourceChecked};
 ghost use Rattle.elf_tool_rewrite.specs.Rewrite.{IsRewritten};
 ghost use Rattle.elf_tool_show.specs.Show.{IsShown};
 ghost use Rattle.elf_tool_link.specs.Link.{IsLinkCall};
 ghost use Rattle.elf_tool_link.specs.Map.{IsMappedExactly};
-ghost use Rattle.elf_tool_program.specs.Program.{EndsFiles, EndsLink, EndsMap, EndsRun, unasked, unruled};
+ghost use Rattle.elf_tool_program.specs.Program.{EndsFiles, EndsLink, EndsMap, EndsRun, EndsUnasked, EndsUnruled};
 
 use crate::opening::{NoRules, open_all, rules_of};
 use crate::scan_check::check_source;
 use elf_link_field::RelocRule;
 use elf_tool_check::{
-    OpenFault, Opener, Refusal, Status, ToolFault, Verdict, check_file, fail, misused, status_of,
-    unopened,
+    Ended, OpenFault, Opener, Status, ToolFault, check_file, end, end_with_refusal,
+    end_with_refusal_in, fail, misused, unopened,
 };
 use elf_tool_link::{Options, link, map};
 use elf_tool_rewrite::rewrite;
-use elf_tool_rule_file::RulesFault;
 use elf_tool_show::show;
 use elf_tool_words::{Request, WordsFault, read_words};
 use std::alloc::Global;
@@ -38,20 +38,25 @@ pub fn run<S: AsStr, O: Opener, W: Write, E: Write>(
     out: &mut W,
     err: &mut E,
 ) -> u8
-    ensures { (status : Ending) × (result ≡ code_of status)
-        × EndsRun (map_list S.text words.now) (O.holds files.old) (O.opens files.old) (W.contents out.old) (W.contents out.new) status }
+    ensures { (ended : EndedValue) × (result ≡ code_of ended.status)
+        × EndsRun (map_list S.text words.now) (O.holds files.old) (O.opens files.old)
+        (AsksInOrder (O.asked files.old) (O.asked files.new))
+        (W.contents out.old) (W.contents out.new) (EndsWith (E.contents err.old) (E.contents err.new) ended) }
 {
-    ending(alloc, words, files, out, err) as u8
+    run_to_end(alloc, words, files, out, err).status as u8
 }
 
-fn ending<S: AsStr, O: Opener, W: Write, E: Write>(
+/// Runs the program as [`run`] does. Returns how it ended, and whether standard error is known to have taken the text that says why.
+pub fn run_to_end<S: AsStr, O: Opener, W: Write, E: Write>(
     alloc: Global,
     words: &[S],
     files: &mut O,
     out: &mut W,
     err: &mut E,
-) -> Status
-    ensures { EndsRun (map_list S.text words.now) (O.holds files.old) (O.opens files.old) (W.contents out.old) (W.contents out.new) result }
+) -> Ended
+    ensures { EndsRun (map_list S.text words.now) (O.holds files.old) (O.opens files.old)
+        (AsksInOrder (O.asked files.old) (O.asked files.new))
+        (W.contents out.old) (W.contents out.new) (EndsWith (E.contents err.old) (E.contents err.new) result) }
 {
     match read_words(alloc, words) {
         Ok(Request::Check { file }) => check_file(alloc, file, files, out, err),
@@ -94,14 +99,17 @@ fn ending<S: AsStr, O: Opener, W: Write, E: Write>(
 }
 
 // How the program ends where its words ask for nothing: as wrong usage, or when out of memory as failed.
-fn no_request<E: Write>(fault: &WordsFault, err: &mut E) -> Status
-    ensures { result ≡ unasked fault.now }
+fn no_request<E: Write>(fault: &WordsFault, err: &mut E) -> Ended
+    ensures { EndsUnasked (EndsWith (E.contents err.old) (E.contents err.new) result) fault.now }
 {
     match fault {
         WordsFault::Words(error) => {
             // This text ends with a line feed of its own.
             let _ = write!(err, "{error}");
-            Status::Usage
+            Ended {
+                status: Status::Usage,
+                printed: false,
+            }
         }
         WordsFault::TooManyFiles => misused("too many files", err),
         WordsFault::BadNumber => misused("bad number", err),
@@ -116,12 +124,13 @@ fn check_file_by_seeking<O: Opener, W: Write, E: Write>(
     files: &mut O,
     out: &mut W,
     err: &mut E,
-) -> Status
-    ensures { EndsFile IsSourceChecked (O.holds files.old file.now) (O.opens files.old file.now)
-        (W.contents out.old) (W.contents out.new) result }
+) -> Ended
+    ensures asked { AsksInOrder (O.asked files.old) (O.asked files.new) (file.now ∷ []) }
+    ensures ends { EndsFile IsSourceChecked (O.holds files.old file.now) (O.opens files.old file.now) file.now
+        (W.contents out.old) (W.contents out.new) (EndsWith (E.contents err.old) (E.contents err.new) result) }
 {
     match files.source(file) {
-        Ok(mut source) => status_of(check_source(alloc, &mut source, out), err),
+        Ok(mut source) => end(check_source(alloc, &mut source, out), err),
         Err(fault) => unopened(fault, file, err),
     }
 }
@@ -132,12 +141,13 @@ fn show_file<O: Opener, W: Write, E: Write>(
     files: &mut O,
     out: &mut W,
     err: &mut E,
-) -> Status
-    ensures { EndsFile IsShown (O.holds files.old file.now) (O.opens files.old file.now)
-        (W.contents out.old) (W.contents out.new) result }
+) -> Ended
+    ensures asked { AsksInOrder (O.asked files.old) (O.asked files.new) (file.now ∷ []) }
+    ensures ends { EndsFile IsShown (O.holds files.old file.now) (O.opens files.old file.now) file.now
+        (W.contents out.old) (W.contents out.new) (EndsWith (E.contents err.old) (E.contents err.new) result) }
 {
     match files.reader(file) {
-        Ok(mut input) => status_of(show(alloc, &mut input, out), err),
+        Ok(mut input) => end(show(alloc, &mut input, out), err),
         Err(fault) => unopened(fault, file, err),
     }
 }
@@ -148,17 +158,18 @@ fn rewrite_file<O: Opener, W: Write, E: Write>(
     files: &mut O,
     out: &mut W,
     err: &mut E,
-) -> Status
-    ensures { EndsFile IsRewritten (O.holds files.old file.now) (O.opens files.old file.now)
-        (W.contents out.old) (W.contents out.new) result }
+) -> Ended
+    ensures asked { AsksInOrder (O.asked files.old) (O.asked files.new) (file.now ∷ []) }
+    ensures ends { EndsFileBy printed_refusal IsRewritten (O.holds files.old file.now) (O.opens files.old file.now) file.now
+        (W.contents out.old) (W.contents out.new) (EndsWith (E.contents err.old) (E.contents err.new) result) }
 {
     match files.reader(file) {
-        Ok(mut input) => printed_status(rewrite(alloc, &mut input, out), err),
+        Ok(mut input) => end_with_refusal(rewrite(alloc, &mut input, out), err),
         Err(fault) => unopened(fault, file, err),
     }
 }
 
-fn map_files<O: Opener, W: Write, E: Write>(
+fn map_named_files<O: Opener, W: Write, E: Write>(
     alloc: Global,
     options: &Options<'_>,
     rules: Option<&[RelocRule]>,
@@ -166,14 +177,14 @@ fn map_files<O: Opener, W: Write, E: Write>(
     files: &mut O,
     out: &mut W,
     err: &mut E,
-) -> Status
+) -> Ended
     requires { length names.now ≤ 64 }
-    ensures { EndsFiles (IsMappedExactly options.now (option_copied rules.entry)) (O.holds files.old) (O.opens files.old)
-        (map_list (λ name. name.now) names.now)
-        (W.contents out.old) (W.contents out.new) result }
+    ensures { EndsFiles printed_of (IsMappedExactly options.now (option_copied rules.entry)) (O.holds files.old) (O.opens files.old)
+        (AsksInOrder (O.asked files.old) (O.asked files.new)) (map_list (λ name. name.now) names.now)
+        (W.contents out.old) (W.contents out.new) (EndsWith (E.contents err.old) (E.contents err.new) result) }
 {
     match open_all(alloc, names, files) {
-        Ok(mut inputs) => status_of(map(alloc, inputs.as_mut_slice(), options, rules, out), err),
+        Ok(mut inputs) => end(map(alloc, inputs.as_mut_slice(), options, rules, out), err),
         Err(failed) => unopened(failed.fault, names[failed.position], err),
     }
 }
@@ -186,16 +197,17 @@ fn map_by_rules<O: Opener, W: Write, E: Write>(
     files: &mut O,
     out: &mut W,
     err: &mut E,
-) -> Status
+) -> Ended
     requires { length names.now ≤ 64 }
-    ensures { EndsMap options.now (O.holds files.old) (O.opens files.old) (option_copied file.entry) (map_list (λ name. name.now) names.now)
-        (W.contents out.old) (W.contents out.new) result }
+    ensures { EndsMap options.now (O.holds files.old) (O.opens files.old) (AsksInOrder (O.asked files.old) (O.asked files.new))
+        (option_copied file.entry) (map_list (λ name. name.now) names.now)
+        (W.contents out.old) (W.contents out.new) (EndsWith (E.contents err.old) (E.contents err.new) result) }
 {
     let Some(file) = file else {
-        return map_files(alloc, options, None, names, files, out, err);
+        return map_named_files(alloc, options, None, names, files, out, err);
     };
     match rules_of(alloc, file, files) {
-        Ok(rules) => map_files(alloc, options, Some(&rules), names, files, out, err),
+        Ok(rules) => map_named_files(alloc, options, Some(&rules), names, files, out, err),
         Err(fault) => no_rules(fault, file, err),
     }
 }
@@ -208,17 +220,18 @@ fn link_by_rules<O: Opener, W: Write, E: Write>(
     files: &mut O,
     out: &mut W,
     err: &mut E,
-) -> Status
-    ensures { EndsLink options.now (O.holds files.old) (O.opens files.old) file.now (map_list (λ name. name.now) names.now)
-        (W.contents out.old) (W.contents out.new) result }
+) -> Ended
+    ensures { EndsLink options.now (O.holds files.old) (O.opens files.old) (AsksInOrder (O.asked files.old) (O.asked files.new)) file.now
+        (map_list (λ name. name.now) names.now)
+        (W.contents out.old) (W.contents out.new) (EndsWith (E.contents err.old) (E.contents err.new) result) }
 {
     match rules_of(alloc, file, files) {
-        Ok(rules) => link_files(alloc, options, &rules, names, files, out, err),
+        Ok(rules) => link_named_files(alloc, options, &rules, names, files, out, err),
         Err(fault) => no_rules(fault, file, err),
     }
 }
 
-fn link_files<O: Opener, W: Write, E: Write>(
+fn link_named_files<O: Opener, W: Write, E: Write>(
     alloc: Global,
     options: &Options<'_>,
     rules: &[RelocRule],
@@ -226,46 +239,34 @@ fn link_files<O: Opener, W: Write, E: Write>(
     files: &mut O,
     out: &mut W,
     err: &mut E,
-) -> Status
-    ensures { EndsFiles (IsLinkCall options.now rules.now) (O.holds files.old) (O.opens files.old) (map_list (λ name. name.now) names.now)
-        (W.contents out.old) (W.contents out.new) result }
+) -> Ended
+    ensures { EndsFiles printed_refusal_in (IsLinkCall options.now rules.now) (O.holds files.old) (O.opens files.old)
+        (AsksInOrder (O.asked files.old) (O.asked files.new)) (map_list (λ name. name.now) names.now)
+        (W.contents out.old) (W.contents out.new) (EndsWith (E.contents err.old) (E.contents err.new) result) }
 {
     match open_all(alloc, names, files) {
         Ok(mut inputs) => {
-            linked_status(link(alloc, inputs.as_mut_slice(), options, rules, out), err)
+            end_with_refusal_in(link(alloc, inputs.as_mut_slice(), options, rules, out), err)
         }
         Err(failed) => unopened(failed.fault, names[failed.position], err),
     }
 }
 
 // How the program ends where the file of this name gave no relocation rules.
-fn no_rules<E: Write>(fault: NoRules, file: &str, err: &mut E) -> Status
-    ensures { result ≡ unruled fault }
+fn no_rules<E: Write>(fault: NoRules, file: &str, err: &mut E) -> Ended
+    ensures { EndsUnruled file.now (EndsWith (E.contents err.old) (E.contents err.new) result) fault }
 {
     match fault {
         NoRules::Unopened => unopened(OpenFault::Refused, file, err),
         NoRules::Unread { at } => fail(&ToolFault::Read { at }, err),
-        NoRules::BadLine { line } => misused(RulesFault::BadLine { line }, err),
+        // As `RulesFault` prints it: the text of an error by `thiserror` is in no contract.
+        NoRules::BadLine { line } => {
+            let written = writeln!(err, "bad rule line {line}");
+            Ended {
+                status: Status::Usage,
+                printed: written.is_ok(),
+            }
+        }
         NoRules::OutOfMemory => fail(&ToolFault::OutOfMemory, err),
     }
-}
-
-// How it ends after an engine that writes no line on what it refuses: the line goes to standard error.
-fn printed_status<E: Write>(answer: Result<Verdict, ToolFault>, err: &mut E) -> Status
-    ensures { result ≡ ending_of answer }
-{
-    if let Ok(Verdict::Refused(refusal)) = &answer {
-        let _ = writeln!(err, "{refusal}");
-    }
-    status_of(answer, err)
-}
-
-// How an engine ends that read several files: the line on a file that it refuses reports which one.
-fn linked_status<E: Write>(answer: Result<Verdict, ToolFault>, err: &mut E) -> Status
-    ensures { result ≡ ending_of answer }
-{
-    if let Ok(Verdict::Refused(Refusal::File { file, .. })) = &answer {
-        let _ = write!(err, "file {file} ");
-    }
-    printed_status(answer, err)
 }

@@ -184,18 +184,6 @@ table_text tables i = table_lines (sections_of tables.image) i (get_or tables.ve
 unfoldable pub all_table_lines : TablesValue → List ℕ
 all_table_lines tables = flat_map (table_text tables) (range_with_len 0 (length tables.image.sections))
 
--- the line of a table that is refused, and nothing for any other section
-abbrev pub refused_text_by : ℕ → Option (ℕ × ℕ) → List ℕ
-refused_text_by i None = []
-refused_text_by i (Some fault) = table_refused_line i fault.0 fault.1
-
-abbrev pub refused_table_text : TablesValue → ℕ → List ℕ
-refused_table_text tables i = refused_text_by i (get_or tables.verdicts i None)
-
--- the lines of the tables that are refused, by the indexes of their sections
-abbrev pub refused_table_lines : TablesValue → List ℕ
-refused_table_lines tables = flat_map (refused_table_text tables) (range_with_len 0 (length tables.image.sections))
-
 -- the line of a section or segment by its index
 abbrev pub section_text : ImageValue → ℕ → List ℕ
 section_text v i = section_line i (section_header_of v.sections i) (section_name v i)
@@ -231,14 +219,6 @@ ShowSays b Done text = (tables : TablesValue) × AreVerdictsOf b tables × (text
 ShowSays b (Refused (File file rule at)) text = IsFault b (Some (rule, at)) × (file ≡ 0) × (text ≡ refused_line rule at)
 ShowSays b (Refused (Link rule file index entry)) text = ⊥
 ShowSays b (Refused TooLong) text = ⊥
-
--- the file is an image, and the text is of those of its tables that are refused; or it says nothing, and the verdict carries the first
--- broken rule and its lowest offset
-abbrev pub RefusedTablesSay : List ℕ → Verdict → List ℕ → Type 0
-RefusedTablesSay b Done text = (tables : TablesValue) × AreVerdictsOf b tables × (text ≡ refused_table_lines tables)
-RefusedTablesSay b (Refused (File file rule at)) text = IsFault b (Some (rule, at)) × (file ≡ 0) × (text ≡ [])
-RefusedTablesSay b (Refused (Link rule file index entry)) text = ⊥
-RefusedTablesSay b (Refused TooLong) text = ⊥
 
 -- the numbers of a verdict fit 64 bits; and those of each of n
 abbrev pub IsVerdictShort : Option (ℕ × ℕ) → Type 0

@@ -1,6 +1,5 @@
 //! The engine [`show`] of `elfmap`, over any reader and any writer: it reads a whole file, validates it, and writes what the file
-//! holds, in lines. [`show_bytes`] does this for bytes, and [`show_length`] says how long that text is. [`push_refused_tables`] makes only
-//! the lines of the tables that break a rule.
+//! holds, in lines. [`show_bytes`] does this for bytes, and [`show_length`] says how long that text is.
 //!
 //! ```
 //! // A header alone is a file of 64 bytes without sections and segments.
@@ -16,4 +15,3 @@ mod show_tables;
 
 pub use elf_tool_check::{Refusal, ToolFault, Verdict};
 pub use engine::{show, show_bytes, show_length};
-pub use show_tables::push_refused_tables;

@@ -1,11 +1,10 @@
 //! The lines of `show` on the tables that a file holds.
-ghost use Rattle.std.specs.Prelude.{◌≡◌, ◌∷◌, ◌≤◌, ◌+◌, ◌++◌, OnOk, length, map, ◌<◌, List, ℕ, IfOk};
+ghost use Rattle.std.specs.Prelude.{◌≡◌, ◌∷◌, ◌≤◌, ◌+◌, ◌++◌, OnOk, length, map, ◌<◌};
 ghost use Rattle.std.specs.Fmt.{decimal};
 ghost use Rattle.elf_tool_check.specs.FileLines.{blank, further_words};
 ghost use Rattle.elf_tool_text.specs.Line.{bytes_text};
 ghost use Rattle.elf_tool_show.specs.Show.{addend_text, dynamic_line, group_line, hash_line, note_line, place_text, relocation_line};
 ghost use Rattle.elf_tool_show.specs.Show.{string_words, symbol_line, table_refused_line, all_table_lines, note_lines, table_text};
-ghost use Rattle.elf_tool_show.specs.Show.{RefusedTablesSay};
 ghost use Rattle.elf_table_symbols.specs.SymbolView.{symbol_entry_value};
 ghost use Rattle.elf_table_lists.specs.Notes.{note_value};
 ghost use Rattle.elf_tool_text.specs.Buffered.{IsBuffered};
@@ -16,21 +15,20 @@ ghost use Rattle.elf_table_symbols.specs.declared.table_section.TableKind.TheVar
 
 use elf_field::Dyn;
 use elf_image_rules::Broken;
-use elf_image_stream::BytesFault;
+use elf_image_type::Image;
 use elf_image_type::strings::string_at;
-use elf_image_type::{Image, parse_bytes};
 use elf_table_all::{
     Dynamic, Group, Hash, Note, Notes, Place, Relocation, Relocs, Symbol, Symbols, TableKind,
     Tables, is_string_tag,
 };
-use elf_tool_check::{Refusal, ToolFault, Verdict};
+use elf_tool_check::ToolFault;
 use elf_tool_text::Output;
 use elf_tool_text::line::{
     begin_line, end_line, push_bytes, push_decimal, push_hexadecimal, push_name, push_signed,
     push_word,
 };
 use elf_tool_text::line_end::{DECIMAL_ROOM, LINE_ROOM, LineEnd, SIGNED_ROOM};
-use elf_tool_text::lines::{Lines, push_lines, show_lines};
+use elf_tool_text::lines::{Lines, show_lines};
 use std::alloc::{AllocError, Global};
 use std::io::Write;
 
@@ -434,60 +432,5 @@ impl<'s, 'a> Lines for DynamicLines<'s, 'a> {
             self.strings,
             self.dynamic.entry(j),
         )
-    }
-}
-
-// The tables of a file that break a rule, without the entries of the others.
-
-/// Appends the line `refused I R A` of each table that breaks a rule, as [`show`](crate::show) writes it, in the order of their sections.
-///
-/// The verdict is [`Verdict::Done`] for bytes that break none of the 33 rules. Otherwise it has the first rule broken, with its lowest
-/// offset, and nothing is appended. [`ToolFault::OutOfMemory`] is the only error; some of the lines may be appended then. Memory holds the
-/// records and parts of the file, the verdicts on its tables, what the test of one table takes, and a hash for each place where a long name
-/// of a symbol begins that a hash table is for. The time is that of `parse` and of `Tables::new`.
-pub fn push_refused_tables(
-    alloc: Global,
-    bytes: &[u8],
-    text: &mut Vec<u8>,
-) -> Result<Verdict, ToolFault>
-    ensures { IfOk result
-        (λ verdict. (said : List ℕ) × RefusedTablesSay bytes.now verdict said × (text.new.items ≡ text.old.items ++ said)) }
-{
-    match parse_bytes(alloc, bytes) {
-        Ok(image) => {
-            let tables = Tables::new(alloc, &image)?;
-            push_lines(alloc, &RefusedTables { tables: &tables }, text)?;
-            Ok(Verdict::Done)
-        }
-        Err(BytesFault::Rule { rule, at }) => {
-            Ok(Verdict::Refused(Refusal::File { file: 0, rule, at }))
-        }
-        Err(BytesFault::OutOfMemory) => Err(ToolFault::OutOfMemory),
-    }
-}
-
-// The lines of the tables that are refused.
-#[derive(Drop)]
-struct RefusedTables<'t, 'i, 'a> {
-    tables: &'t Tables<'i, 'a>,
-}
-
-impl<'t, 'i, 'a> Lines for RefusedTables<'t, 'i, 'a> {
-    ghost use Rattle.std.specs.Prelude.{length};
-    ghost use Rattle.elf_tool_show.specs.Show.{refused_table_text};
-
-    ghost count = { λ lines. length lines.tables.now.image.sections };
-
-    ghost line = { λ lines. refused_table_text lines.tables.now };
-
-    fn count(&self) -> usize {
-        self.tables.section_count()
-    }
-
-    fn push(&self, _alloc: Global, text: &mut Vec<u8>, i: usize) -> Result<(), AllocError> {
-        match self.tables.verdict(i) {
-            Ok(()) => Ok(()),
-            Err(broken) => push_table_refused_line(text, i, broken),
-        }
     }
 }

@@ -31,15 +31,15 @@ words_on text [] = text
 words_on text (w ∷ ws) = words_on (text ++ blank ∷ w) ws
 
 -- words that come one after the other are after the text
-words_behind : (text : List ℕ) (ws : List (List ℕ)) → words_on text ws ≡ text ++ further_words ws
-words_behind text [] = sym (append-nil text)
-words_behind text (w ∷ ws) = words_behind (text ++ blank ∷ w) ws ∙ append_assoc text (blank ∷ w) (further_words ws)
+words_append : (text : List ℕ) (ws : List (List ℕ)) → words_on text ws ≡ text ++ further_words ws
+words_append text [] = sym (append-nil text)
+words_append text (w ∷ ws) = words_append (text ++ blank ∷ w) ws ∙ append_assoc text (blank ∷ w) (further_words ws)
 
 -- a line that is begun, given its words, and ended
 pub whole_line : (text w : List ℕ) (ws : List (List ℕ)) → words_on (text ++ w) ws ++ codes "\n" ≡ text ++ line (w ∷ ws)
 unfolding line
 whole_line text w ws =
-    ap (λ (s : List ℕ). s ++ codes "\n") (words_behind (text ++ w) ws ∙ append_assoc text w (further_words ws))
+    ap (λ (s : List ℕ). s ++ codes "\n") (words_append (text ++ w) ws ∙ append_assoc text w (further_words ws))
     ∙ append_assoc text (w ++ further_words ws) (codes "\n")
     ∙ ap (λ (s : List ℕ). text ++ (s ++ codes "\n")) (sym (joined_words w ws))
 
@@ -51,19 +51,19 @@ line_ended (Ok done) text last new w ws ended same = ended ∙ ap (λ (s : List 
 line_ended (Err fault) text last new w ws ended same = tt
 
 -- words after others are after the text too
-further_behind : (text : List ℕ) (ws vs : List (List ℕ)) → words_on text ws ++ further_words vs ≡ words_on text (ws ++ vs)
-further_behind text ws vs =
-    ap (λ (s : List ℕ). s ++ further_words vs) (words_behind text ws)
+further_append : (text : List ℕ) (ws vs : List (List ℕ)) → words_on text ws ++ further_words vs ≡ words_on text (ws ++ vs)
+further_append text ws vs =
+    ap (λ (s : List ℕ). s ++ further_words vs) (words_append text ws)
     ∙ append_assoc text (further_words ws) (further_words vs)
     ∙ ap (λ (s : List ℕ). text ++ s) (sym (flat_map-append (λ (word : List ℕ). blank ∷ word) ws vs))
-    ∙ sym (words_behind text (ws ++ vs))
+    ∙ sym (words_append text (ws ++ vs))
 
 -- a line whose last words come as a list
 pub line_ended_by : {T E : Type 0} (result : Result T E) (text last new w : List ℕ) (ws vs : List (List ℕ)) →
     OnOk result (new ≡ last ++ codes "\n")
     → last ≡ words_on (text ++ w) ws ++ further_words vs → OnOk result (new ≡ text ++ line (w ∷ (ws ++ vs)))
 line_ended_by result text last new w ws vs ended same =
-    line_ended result text last new w (ws ++ vs) ended (same ∙ further_behind (text ++ w) ws vs)
+    line_ended result text last new w (ws ++ vs) ended (same ∙ further_append (text ++ w) ws vs)
 
 -- ---- a line as one text
 
@@ -80,14 +80,14 @@ word_more text [] v = refl
 word_more text (w ∷ ws) v = word_more (text ++ blank ∷ w) ws v
 
 -- the last word is after them
-pub line_ended_behind : {T E : Type 0} (result : Result T E) (text put last new w : List ℕ) (ws : List (List ℕ)) (v : List ℕ) →
+pub line_ended_after : {T E : Type 0} (result : Result T E) (text put last new w : List ℕ) (ws : List (List ℕ)) (v : List ℕ) →
     OnOk result (new ≡ last ++ codes "\n")
     → last ≡ (text ++ put) ++ blank ∷ v → put ≡ w ++ further_words ws → OnOk result (new ≡ text ++ line (w ∷ (ws ++ v ∷ [])))
-line_ended_behind result text put last new w ws v ended same is =
+line_ended_after result text put last new w ws v ended same is =
     line_ended result text last new w (ws ++ v ∷ []) ended (
     same
     ∙ ap (λ (s : List ℕ). s ++ blank ∷ v) (
-    ap (λ (s : List ℕ). text ++ s) is ∙ sym (append_assoc text w (further_words ws)) ∙ sym (words_behind (text ++ w) ws)
+    ap (λ (s : List ℕ). text ++ s) is ∙ sym (append_assoc text w (further_words ws)) ∙ sym (words_append (text ++ w) ws)
     )
     ∙ sym (word_more (text ++ w) ws v)
     )
@@ -125,25 +125,25 @@ put_before out i x some within =
 -- ---- after what is put is what was there
 
 module _ (base : ℕ) where
-  abbrev IsBehind : ℕ → ℕ → List ℕ → Type 0
-  IsBehind k n acc = digits_onto k base false n acc ≡ digits_onto k base false n [] ++ acc
+  abbrev IsAppended : ℕ → ℕ → List ℕ → Type 0
+  IsAppended k n acc = digits_onto k base false n acc ≡ digits_onto k base false n [] ++ acc
 
-  next_behind : (k n : ℕ) (acc : List ℕ) → ((acc : List ℕ) → IsBehind k (n / base) acc) → (none : Bool) → eqb (n / base) 0 ≡ none →
-      IsBehind (suc k) n acc
-  next_behind k n acc before true is =
+  next_appended : (k n : ℕ) (acc : List ℕ) → ((acc : List ℕ) → IsAppended k (n / base) acc) → (none : Bool) → eqb (n / base) 0 ≡ none →
+      IsAppended (suc k) n acc
+  next_appended k n acc before true is =
       one_digit base n acc k true is ∙ ap (λ (s : List ℕ). s ++ acc) (sym (one_digit base n [] k true is))
-  next_behind k n acc before false is =
+  next_appended k n acc before false is =
       let last : List ℕ = with_last base n [] in
       one_digit base n acc k false is ∙ before (with_last base n acc) ∙ sym (append_assoc (digits_onto k base false (n / base) []) last acc)
       ∙ ap (λ (s : List ℕ). s ++ acc) (sym (before last) ∙ sym (one_digit base n [] k false is))
 
-  pub digits_behind : (k n : ℕ) (acc : List ℕ) → IsBehind k n acc
-  digits_behind zero n acc = refl
-  digits_behind (suc k) n acc = next_behind k n acc (digits_behind k (n / base)) (eqb (n / base) 0) refl
+  pub digits_append : (k n : ℕ) (acc : List ℕ) → IsAppended k n acc
+  digits_append zero n acc = refl
+  digits_append (suc k) n acc = next_appended k n acc (digits_append k (n / base)) (eqb (n / base) 0) refl
 
-  pub digits_behind_all : (n : ℕ) (acc : List ℕ) → digits_onto 64 base false n acc ≡ digits base false n ++ acc
+  pub digits_append_all : (n : ℕ) (acc : List ℕ) → digits_onto 64 base false n acc ≡ digits base false n ++ acc
   unfolding digits
-  digits_behind_all n acc = digits_behind 64 n acc
+  digits_append_all n acc = digits_append 64 n acc
 
   -- a number has a digit, so there is a place before those that are put
   some_digit : (k n : ℕ) (none : Bool) → eqb (n / base) 0 ≡ none → 0 < length (digits_onto (suc k) base false n [])
@@ -151,7 +151,7 @@ module _ (base : ℕ) where
   some_digit k n false is =
       rw (
         one_digit base n [] k false is,
-        digits_behind k (n / base) (with_last base n []),
+        digits_append k (n / base) (with_last base n []),
         length-append (digits_onto k base false (n / base) []) (with_last base n []),
       )
       (omega arith)
@@ -161,7 +161,7 @@ module _ (base : ℕ) where
   place_before zero n put all tail some is = absurd (omega arith)
   place_before (suc k) n put all tail some is =
       let counts : length (digits_onto (suc k) base false n []) + length put ≡ length all + length tail =
-      sym (length-append (digits_onto (suc k) base false n []) put) ∙ ap length (sym (digits_behind (suc k) n put) ∙ is) ∙
+      sym (length-append (digits_onto (suc k) base false n []) put) ∙ ap length (sym (digits_append (suc k) n put) ∙ is) ∙
       length-append all tail in
       omega (arith, counts, some_digit k n (eqb (n / base) 0) refl)
 
@@ -213,7 +213,7 @@ module _ (base : ℕ) (some : 0 < base) where
       let left = some_place base (n / base) (k - 1) (eqb-false (n / base) 0 is) fits in
       rw (
         one_digit base n [] j false is,
-        digits_behind base j (n / base) (with_last base n []),
+        digits_append base j (n / base) (with_last base n []),
         length-append (digits_onto j base false (n / base) []) (with_last base n []),
       )
       (omega (arith, fewer (n / base) left fits))

@@ -46,14 +46,3 @@ pub fn show_lines<L: Lines, W: Write>(
     }
     Ok(())
 }
-
-/// Appends them all to a text. Fails only when out of memory.
-pub fn push_lines<L: Lines>(alloc: Global, lines: &L, text: &mut Vec<u8>) -> Result<(), AllocError>
-    ensures { OnOk result (text.new.items
-        ≡ text.old.items ++ flat_map (L.line lines.now) (range_with_len 0 (L.count lines.now))) }
-{
-    for j in 0..lines.count() {
-        lines.push(alloc, text, j)?;
-    }
-    Ok(())
-}

@@ -8,7 +8,7 @@ ghost use Rattle.elf_image.specs.Outline.{OutlineValue, image_in};
 
 use crate::counting::Counting;
 use crate::{Failed, NO_SECTION, UNREAD, UNWRITTEN, failed};
-use elf_image::{Seeking, Source, copy_image, scan};
+use elf_image::{Opened, Seeking, Source, copy_image, scan};
 use std::alloc::Global;
 use std::fs;
 use std::io::Write;
@@ -18,7 +18,7 @@ const UNTOLD: Failed = (3, "the number of reads can't be written");
 /// Copies a file to standard output with these flags of a section, and says how many reads that took. Returns the exit status.
 pub fn copy(rt: &HostRuntime, name: &str, section: usize, flags: u64) -> Result<u8, Failed> {
     let file = fs::open(rt, name).map_err(|_| UNREAD)?;
-    let mut source = Counting::new(Seeking::new(file));
+    let mut source = Counting::new(Seeking::new(Opened(file)));
     let status = copy_with_flags(rt.alloc(), &mut source, section, flags, &mut rt.stdout());
     eprintln!(rt; "{} reads", source.reads()).map_err(|_| UNTOLD)?;
     Ok(status)

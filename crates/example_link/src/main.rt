@@ -2,11 +2,13 @@
 //! error it says the first byte of its memory, as the executable's own image has it.
 #![tactic(auto)]
 
-ghost use Rattle.std.specs.Prelude.{ℕ, IfOk, List, OnOk};
+ghost use Rattle.std.specs.Prelude.{ℕ, [], ◌∷◌, IfOk, List, OnOk};
 ghost use Rattle.std.specs.Io.KnownBytes.{Appends};
-ghost use Rattle.elf_exec.specs.Executable.{IsExecutable, IsExecutableOf, IsMemoryOf};
-ghost use Rattle.elf_link.specs.LinkMap.{LinkMapValue};
-ghost use Rattle.elf_link.specs.Linked.{IsMapOfSome};
+ghost use Rattle.elf_exec.specs.Executable.{LoadsLink, LoadsSomeLink, IsMemoryOf};
+ghost use Rattle.elf_link.specs.LinkMap.{IsLinkMap, LinkMapValue};
+ghost use Rattle.elf_link.specs.Linked.{IsSoundMap};
+ghost use Rattle.elf_object.specs.Object.{ObjectValue};
+ghost use Rattle.elf_tool.specs.ObjectFiles.{AreObjectFiles, IsObjectFile};
 
 use elf_exec::{prove_loaded, write_exec};
 use elf_image::parse;
@@ -46,36 +48,72 @@ fn main(rt: HostRuntime) -> io::Result<ExitCode> {
 
 fn link_files(rt: &HostRuntime, first: &[u8], second: &[u8]) -> Result<(), &'static str> {
     let alloc = rt.alloc();
+    link_two(alloc, &OPTIONS, first, second, &mut rt.stdout())?;
     let objects = [object_in(alloc, first)?, object_in(alloc, second)?];
-    link(alloc, &objects, &mut rt.stdout())?;
     if let Some(byte) = byte_at(alloc, &objects, OPTIONS.base)? {
         let _ = eprintln!(rt; "the first byte of its memory: {byte:#x}");
     }
     Ok(())
 }
 
-fn object_in(alloc: Global, bytes: &[u8]) -> Result<Object<'_>, &'static str> {
-    let image = parse(alloc, bytes).map_err(|_| "a file is no ELF-64 file")?;
-    object_of(alloc, &image).map_err(|_| "a file is no object")
+/// From the bytes of the two files to those of the executable.
+fn link_two<W: io::Write>(
+    alloc: Global,
+    options: &Options<'_>,
+    first: &[u8],
+    second: &[u8],
+    to: &mut W,
+) -> Result<(), &'static str>
+    // The files are objects, the map is the one that the options ask for, and what was written is the executable of this link: an image
+    // that loads its memory, with the map's entry as `e_entry`.
+    ensures { OnOk result ((objects : List ObjectValue) × AreObjectFiles (first.now ∷ second.now ∷ []) objects ×
+        ((map : LinkMapValue) × IsLinkMap options.now objects map × ((executable : List ℕ) ×
+        LoadsLink objects map RULES executable × Appends (W.contents to.old) (W.contents to.new) executable))) }
+{
+    let objects = [object_in(alloc, first)?, object_in(alloc, second)?];
+    let map = mapped(alloc, options, &objects)?;
+    link(alloc, &map, &objects, to)
 }
 
-fn mapped<'a>(alloc: Global, files: &[Object<'a>]) -> Result<LinkMap<'a>, &'static str>
-    ensures { IfOk result (IsMapOfSome files.now) }
+fn object_in(alloc: Global, bytes: &[u8]) -> Result<Object<'_>, &'static str>
+    ensures { IfOk result (IsObjectFile bytes.now) }
+{
+    let Ok(image) = parse(alloc, bytes) else {
+        return Err("a file is no ELF-64 file");
+    };
+    match object_of(alloc, &image) {
+        Ok(object) => Ok(object),
+        Err(_) => Err("a file is no object"),
+    }
+}
+
+fn mapped<'a>(
+    alloc: Global,
+    options: &Options<'_>,
+    files: &[Object<'a>],
+) -> Result<LinkMap<'a>, &'static str>
+    ensures sound { IfOk result (IsSoundMap files.now) }
+    ensures map { IfOk result (IsLinkMap options.now files.now) }
 {
     let hasher = std::hash::BuildHasherDefault::<std::hash::FoldHasher>::new();
-    match map(alloc, files, &OPTIONS, hasher) {
+    match map(alloc, files, options, hasher) {
         Ok(map) => Ok(map),
         Err(_) => Err("the objects can't be linked"),
     }
 }
 
-fn link<W: io::Write>(alloc: Global, files: &[Object<'_>], to: &mut W) -> Result<(), &'static str>
-    // What was written is the executable of a link of these objects: an image that loads the memory of the link.
-    ensures { OnOk result ((map : LinkMapValue) × IsMapOfSome files.now map × ((executable : List ℕ) ×
-        IsExecutable files.now map RULES executable × Appends (W.contents to.old) (W.contents to.new) executable)) }
+fn link<'l, 'a, W: io::Write>(
+    alloc: Global,
+    map: &'l LinkMap<'a>,
+    files: &'l [Object<'a>],
+    to: &mut W,
+) -> Result<(), &'static str>
+    requires { IsSoundMap files.now map.now }
+    // What was written is the executable of the link of these objects: an image that loads the memory of the link.
+    ensures { OnOk result ((executable : List ℕ) × LoadsLink files.now map.now RULES executable ×
+        Appends (W.contents to.old) (W.contents to.new) executable) }
 {
-    let map = mapped(alloc, files)?;
-    let Ok(linked) = relocate(alloc, &map, files, &RULES) else {
+    let Ok(linked) = relocate(alloc, map, files, &RULES) else {
         return Err("a relocation can't be applied");
     };
     write_exec(alloc, &linked, to).map_err(|_| "the executable can't be written")
@@ -83,10 +121,11 @@ fn link<W: io::Write>(alloc: Global, files: &[Object<'_>], to: &mut W) -> Result
 
 /// The executable's bytes.
 fn linked(alloc: Global, files: &[Object<'_>]) -> Result<Vec<u8>, &'static str>
-    ensures { IfOk result (λ executable. IsExecutableOf files.now RULES executable.items) }
+    ensures { IfOk result (λ executable. LoadsSomeLink files.now RULES executable.items) }
 {
     let mut executable = Vec::new(alloc);
-    link(alloc, files, &mut executable)?;
+    let map = mapped(alloc, &OPTIONS, files)?;
+    link(alloc, &map, files, &mut executable)?;
     Ok(executable)
 }
 

@@ -1,6 +1,6 @@
 //! The link of files, their relocated bytes, and their executable.
 ghost use Rattle.std.specs.Prelude.{IfOk};
-ghost use Rattle.elf_link_relocate.specs.Linked.{IsMapButOptions, IsMapOfSome, IsReadyLink};
+ghost use Rattle.elf_link_relocate.specs.Linked.{IsSoundMapButOptions, IsSoundMap, IsSoundLinked};
 
 use crate::said::{Said, of_fault, say};
 use elf_exec::{ExecFault, write_exec};
@@ -49,7 +49,7 @@ pub fn object_in(alloc: Global, bytes: &[u8]) -> Result<Object<'_>, Fault> {
 
 /// The link map of these objects, each output at a multiple of a page.
 pub fn mapped<'a>(alloc: Global, objects: &[Object<'a>]) -> Result<LinkMap<'a>, LinkFault>
-    ensures { IfOk result (λ m. IsMapOfSome objects.now m) }
+    ensures { IfOk result (λ m. IsSoundMap objects.now m) }
 {
     let options = Options {
         base: 0x40_0000,
@@ -80,8 +80,8 @@ fn on_map<'m, 'a, W: Write>(
     rules: &'m [RelocRule],
     out: &mut W,
 )
-    requires map { IsMapButOptions objects.now map.now }
-    requires some { IsMapOfSome objects.now map.now }
+    requires map { IsSoundMapButOptions objects.now map.now }
+    requires some { IsSoundMap objects.now map.now }
 {
     say(out, "map", Said::Done(map.outputs().len() as u64));
     match relocate(alloc, map, objects, rules) {
@@ -97,7 +97,7 @@ fn on_map<'m, 'a, W: Write>(
 }
 
 fn on_linked<W: Write>(alloc: Global, linked: &Linked<'_, '_>, out: &mut W)
-    requires { IsReadyLink linked.now }
+    requires { IsSoundLinked linked.now }
 {
     say(out, "relocate", Said::Done(linked.rules().len() as u64));
     match write_exec(alloc, linked, &mut std::io::sink()) {

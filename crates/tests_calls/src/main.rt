@@ -19,7 +19,7 @@ mod quiet;
 mod said;
 mod words;
 
-use elf_image_stream::{Fault, Seeking, read_to_end, resume};
+use elf_image_stream::{Fault, Opened, Seeking, read_to_end, resume};
 use said::{Said, of_fault, say};
 use std::alloc::Global;
 use std::io::{Read, Write};
@@ -111,7 +111,7 @@ fn written(rt: &HostRuntime, call: &str, name: &String) -> io::Result<ExitCode> 
     let alloc = rt.alloc();
     let (mut out, mut err) = (rt.stdout(), rt.stderr());
     if call == "copy" {
-        let mut source = Seeking::new(fs::open(rt, name.as_str())?);
+        let mut source = Seeking::new(Opened(fs::open(rt, name.as_str())?));
         let ended = images::copy(alloc, &mut source, &mut out);
         return Ok(ExitCode::from(images::status(ended, &mut err)));
     }

@@ -8,7 +8,7 @@ use elf_field::{Order, Record, Shdr};
 use elf_image_outline::{Outline, copy_image, scan};
 use elf_image_rules::rules::SHARED_BYTE;
 use elf_image_rules::verdict;
-use elf_image_stream::{Bytes, Seeking, Source};
+use elf_image_stream::{Bytes, Opened, Seeking, Source};
 use elf_image_type::{Image, parse, write};
 use elf_link_map::LinkMap;
 use elf_link_relocate::{Linked, relocate};
@@ -208,7 +208,8 @@ fn on_outline(outline: &Outline, bytes: &[u8]) {
     let _ = (outline.len(), outline.order(), outline.header());
     let _ = (outline.sections().len(), outline.segments().len());
     let _ = (outline.parts().len(), outline.name_table());
-    let _ = copy_image(outline, &mut Seeking::new(Cursor::new(bytes)), &mut sink());
+    let mut source = Seeking::new(Opened(Cursor::new(bytes)));
+    let _ = copy_image(outline, &mut source, &mut sink());
 }
 
 /// What a layout reports.

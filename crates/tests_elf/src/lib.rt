@@ -18,9 +18,9 @@ pub mod extent {
 /// Images.
 pub mod image {
     pub use elf::image::{
-        Bytes, CopyFault, Failed, Failures, Fault, Image, NoSection, Outline, Owner, Part,
-        ReplaceFault, Seeking, Source, WriteFault, copy_image, parse, read_to_end, resume, rules,
-        scan, verdict, write,
+        Bytes, CopyFault, Failed, Failures, Fault, Image, NoSection, Opened, Outline, Owner, Part,
+        ReplaceFault, Seeking, Source, Stream, WriteFault, copy_image, parse, read_to_end, resume,
+        rules, scan, verdict, write,
     };
 }
 
@@ -45,8 +45,8 @@ pub mod object {
 /// The link.
 pub mod link {
     pub use elf::link::{
-        Binding, Common, Form, Identity, LinkFault, LinkMap, Linked, Member, Options, Output,
-        Range, RelocRule, Width, map, relocate, rules,
+        Binding, Common, Form, Identity, LinkFault, LinkMap, Linked, Member, Named, Options,
+        Output, Range, RelocRule, Width, laws, map, relocate, rules,
     };
 }
 
@@ -58,9 +58,9 @@ pub mod exec {
 /// The program.
 pub mod tool {
     pub use elf::tool::{
-        Form, OpenFault, Opener, Options, Range, Refusal, RelocRule, Request, RulesFault, Status,
-        ToolFault, Verdict, Width, WordsFault, check, check_source, map, read_rules, read_words,
-        rewrite, run, show,
+        Ended, Form, OpenFault, Opener, Options, Range, Refusal, RelocRule, Request, RulesFault,
+        Status, ToolFault, Verdict, Width, WordsFault, check, check_source, map, read_rules,
+        read_words, rewrite, run, run_to_end, show,
     };
 }
 

@@ -6,7 +6,8 @@ use elf_field::{Order, Rel};
 use elf_image_outline::{RecordsFault, read_ends, read_record, read_records};
 use elf_image_rules::TableEnds;
 use elf_image_stream::{
-    Bytes, Failed, Failures, Fault, ReadFault, Seeking, Source, read_exactly, read_to_end, resume,
+    Bytes, Failed, Failures, Fault, Opened, ReadFault, Seeking, Source, read_exactly, read_to_end,
+    resume,
 };
 use std::alloc::Global;
 use std::io;
@@ -159,6 +160,22 @@ fn bytes_are_read_at_any_offset(rt: HostRuntime) {
     );
 }
 
+#[test]
+fn an_opened_file_is_read_at_any_offset(rt: HostRuntime) {
+    let mut file = Seeking::new(Opened(Cursor::new(b"abcde".as_slice())));
+    let (mut end, mut front, mut none) = ([0; 2], [0; 2], [7; 2]);
+    let answers = [
+        file.read_at(3, &mut end),
+        file.read_at(0, &mut front),
+        file.read_at(5, &mut none),
+    ];
+    assert_same(
+        &rt,
+        (file.length(), answers, (end, front, none)),
+        (Ok(5), [Ok(2), Ok(2), Ok(0)], (*b"de", *b"ab", [7; 2])),
+    );
+}
+
 /// A file of 2^32 + 64 bytes, each of which is how many times its offset holds 2^32.
 #[derive(Drop)]
 struct LongFile {
@@ -192,14 +209,14 @@ impl Seek for LongFile {
 /// The byte at an offset of it.
 fn long_byte(at: u64) -> (Result<usize, Failed>, u8) {
     let mut byte = [9];
-    let answer = Seeking::new(LongFile { at: 0 }).read_at(at, &mut byte);
+    let answer = Seeking::new(Opened(LongFile { at: 0 })).read_at(at, &mut byte);
     (answer, byte[0])
 }
 
 // No number of a file is cut to 32 bits.
 #[test]
 fn a_file_of_more_than_four_gigabytes_is_sought(rt: HostRuntime) {
-    let length = Seeking::new(LongFile { at: 0 }).length();
+    let length = Seeking::new(Opened(LongFile { at: 0 })).length();
     let bytes = [long_byte(63), long_byte(LONG - 1), long_byte(LONG)];
     let expected = [(Ok(1), 0), (Ok(1), 1), (Ok(0), 9)];
     assert_same(&rt, (length, bytes), (Ok(LONG), expected));

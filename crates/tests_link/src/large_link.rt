@@ -1,5 +1,5 @@
 //! The large link: where its outputs and sections are, what its names are bound to, and its fields.
-ghost use Rattle.elf_link_relocate.specs.Linked.{IsMapButOptions};
+ghost use Rattle.elf_link_relocate.specs.Linked.{IsSoundMapButOptions};
 
 use crate::asserts::assert_same;
 use crate::large_files::{
@@ -156,7 +156,7 @@ fn fields_seen<'m, 'a>(
     order: Order,
     base: u64,
 ) -> Result<Option<u8>, LinkFault>
-    requires { IsMapButOptions objects.now link.now }
+    requires { IsSoundMapButOptions objects.now link.now }
 {
     let rules = rules();
     let linked = relocate(alloc, link, objects, &rules)?;

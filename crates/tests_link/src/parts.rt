@@ -1,7 +1,7 @@
 //! Parts of objects, link maps and relocation rules.
 ghost use Rattle.std.specs.Prelude.{IfOk, None, OnOk};
 ghost use Rattle.elf_link_map.specs.LinkMap.{FirstOfLink, IsLinkMap};
-ghost use Rattle.elf_link_relocate.specs.Linked.{IsMapButOptions, IsMapOfSome};
+ghost use Rattle.elf_link_relocate.specs.Linked.{IsSoundMapButOptions, IsSoundMap};
 
 use elf_link_field::{Form, Range, RelocRule, Width};
 use elf_link_map::{LinkFault, LinkMap, Options, map};
@@ -37,7 +37,7 @@ pub(crate) fn mapped_by<'a>(
 ) -> Result<LinkMap<'a>, LinkFault>
     ensures sound { OnOk result (FirstOfLink options.now objects.now None) }
     ensures map { IfOk result (λ m. IsLinkMap options.now objects.now m) }
-    ensures some { IfOk result (λ m. IsMapOfSome objects.now m) }
+    ensures some { IfOk result (λ m. IsSoundMap objects.now m) }
 {
     map(
         alloc,
@@ -54,7 +54,7 @@ pub(crate) fn mapped<'a>(
     base: u64,
     entry: Option<&[u8]>,
 ) -> Result<LinkMap<'a>, LinkFault>
-    ensures { IfOk result (λ m. IsMapOfSome objects.now m) }
+    ensures { IfOk result (λ m. IsSoundMap objects.now m) }
 {
     let options = Options {
         base,
@@ -81,7 +81,7 @@ fn relocated_by<'m, 'a>(
     objects: &'m [Object<'a>],
     rules: &'m [RelocRule],
 ) -> Result<Vec<u8>, LinkFault>
-    requires { IsMapButOptions objects.now map.now }
+    requires { IsSoundMapButOptions objects.now map.now }
 {
     let linked = relocate(alloc, map, objects, rules)?;
     Ok(Vec::from_slice(alloc, linked.bytes(0, 0).unwrap_or(b""))?)

@@ -1,10 +1,11 @@
 //! Where outputs are, as code asks that knows it by the laws: no difference is below 0, and no page has a rest.
 ghost use Rattle.std.specs.Prelude.{◌≡◌, ◌↔◌, ◌<◌, ℕ, true, List, None, length};
 ghost use Rattle.elf_link_field.specs.declared.rule.RelocRule.{RelocRule};
-ghost use Rattle.elf_link_files.specs.Rows.{FirstAmong};
+ghost use Rattle.elf_link_files.specs.Rows.{FirstAt};
 ghost use Rattle.elf_link_map.specs.LinkMap.{LinkMapValue, FirstOfLink, IsLinkMap};
 ghost use Rattle.elf_link_map.specs.Standing.{output_at};
-ghost use Rattle.elf_link_relocate.specs.Linked.{IsLinked, LinkedValue, IsMapButOptions, IsMapOfSome, HasContentAt, HaveBytes, IsInMemory};
+ghost use Rattle.elf_link_relocate.specs.Linked.{IsLinked, LinkedValue, IsSoundMapButOptions, IsSoundMap};
+ghost use Rattle.elf_link_relocate.specs.Linked.{HasContentAt, HaveBytes, IsInMemory};
 ghost use Rattle.elf_link_relocate.specs.Linked.{IsInOutputAt, IsMemory};
 ghost use Rattle.elf_link_relocate.specs.Fields.{applied_entry_rules};
 ghost use Rattle.elf_object_type.specs.Object.{ObjectValue};
@@ -24,8 +25,8 @@ use tests_files::{list, object, section};
 
 /// Memory has a byte exactly at the addresses in outputs, and from the first common to the end of the last.
 fn memory_is_there()
-    ensures { (fs : List ObjectValue) (m : LinkMapValue) (rules : List RelocRule) → IsMapButOptions fs m →
-        FirstAmong (applied_entry_rules fs m rules) None →
+    ensures { (fs : List ObjectValue) (m : LinkMapValue) (rules : List RelocRule) → IsSoundMapButOptions fs m →
+        FirstAt (applied_entry_rules fs m rules) None →
         (x : ℕ) → IsInMemory m x ↔ ((v : ℕ) × IsMemory fs m rules x v) }
 {
     some_byte();
@@ -34,7 +35,7 @@ fn memory_is_there()
 
 /// Where bytes are relocated, memory has one byte at each of these addresses, below 256.
 fn memory_is_one()
-    ensures { (fs : List ObjectValue) (m : LinkMapValue) (rules : List RelocRule) (l : LinkedValue) → IsMapButOptions fs m →
+    ensures { (fs : List ObjectValue) (m : LinkMapValue) (rules : List RelocRule) (l : LinkedValue) → IsSoundMapButOptions fs m →
         IsLinked fs m rules l →
         HaveBytes fs → (x : ℕ) → IsInMemory m x → (v : ℕ) × (v < 256) × ((w : ℕ) → IsMemory fs m rules x w → w ≡ v) }
 {
@@ -45,8 +46,8 @@ fn memory_is_one()
 
 /// Memory is 0 if no content is.
 fn memory_without_content()
-    ensures { (fs : List ObjectValue) (m : LinkMapValue) (rules : List RelocRule) → IsMapButOptions fs m →
-        FirstAmong (applied_entry_rules fs m rules) None →
+    ensures { (fs : List ObjectValue) (m : LinkMapValue) (rules : List RelocRule) → IsSoundMapButOptions fs m →
+        FirstAt (applied_entry_rules fs m rules) None →
         (x : ℕ) → IsInMemory m x → ¬ HasContentAt fs m x → IsMemory fs m rules x 0 }
 {
     field_in_content();
@@ -54,8 +55,8 @@ fn memory_without_content()
 
 /// Memory is 0 in an output without bits.
 fn memory_without_bits()
-    ensures { (fs : List ObjectValue) (m : LinkMapValue) (rules : List RelocRule) → IsMapOfSome fs m →
-        FirstAmong (applied_entry_rules fs m rules) None →
+    ensures { (fs : List ObjectValue) (m : LinkMapValue) (rules : List RelocRule) → IsSoundMap fs m →
+        FirstAt (applied_entry_rules fs m rules) None →
         (x k : ℕ) → k < length m.outputs → IsInOutputAt m k x → (output_at m k).no_bits ≡ true → IsMemory fs m rules x 0 }
 {
     outputs_stand();

@@ -1,6 +1,6 @@
 //! The executable of no file at all, and how one goes out. Executables byte for byte are in `cases/links.txt`.
 ghost use Rattle.std.specs.Prelude.{IfOk};
-ghost use Rattle.elf_link_relocate.specs.Linked.{IsMapButOptions, IsMapOfSome};
+ghost use Rattle.elf_link_relocate.specs.Linked.{IsSoundMapButOptions, IsSoundMap};
 
 use crate::asserts::assert_same;
 use elf_exec::{ExecFault, write_exec};
@@ -37,7 +37,7 @@ fn mapped<'a>(
     objects: &[Object<'a>],
     options: &Options<'_>,
 ) -> Result<LinkMap<'a>, LinkFault>
-    ensures { IfOk result (λ m. IsMapOfSome objects.now m) }
+    ensures { IfOk result (λ m. IsSoundMap objects.now m) }
 {
     map(
         alloc,
@@ -68,8 +68,8 @@ fn write_mapped<'m, 'a, W: Write>(
     objects: &'m [Object<'a>],
     writer: &mut W,
 ) -> Ended
-    requires map { IsMapButOptions objects.now map.now }
-    requires some { IsMapOfSome objects.now map.now }
+    requires map { IsSoundMapButOptions objects.now map.now }
+    requires some { IsSoundMap objects.now map.now }
 {
     let rules = [CALL];
     let linked = relocate(alloc, map, objects, &rules)?;

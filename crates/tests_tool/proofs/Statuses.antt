@@ -11,7 +11,8 @@ use Rattle.clap.specs.Walk.{Row, Text, walked}
 use Rattle.elf_image_rules.specs.Rules.{IsFault}
 use Rattle.elf_tool_check.specs.Check.{CheckSays}
 use Rattle.elf_tool_program.specs.CheckSource.{IsSourceChecked}
-use Rattle.elf_tool_check.specs.Ending.{code_of, ending_of}
+use Rattle.elf_tool_check.specs.Ending.{EndsWith, code_of, ending_of}
+use Rattle.elf_tool_check.specs.declared.ending.Ended.{Ended}
 use Rattle.elf_tool_check.specs.declared.ending.Status.{Status}
 use Rattle.elf_tool_check.specs.Engine.{IsFileCall, IsReadWhole, Report}
 use Rattle.elf_tool_show.specs.Show.{ShowSays}
@@ -131,39 +132,41 @@ no_link : (name : Text) → name ≡ codes "check" → name ≡ codes "link" →
 no_link name one other = let both : codes "check" ≡ codes "link" = sym one ∙ other in cc
 
 -- the whole program says it
-checked_says : (bytes : List ℕ) (old new : Option (List ℕ)) (status : Status) → length bytes ≤ 2 ^ 30
-    → EndsRun check_words (λ name. Some bytes) (λ name. true) old new status → StatusSays status bytes
-checked_says bytes old new status short (inl (Check file, asked, inl (input, rest, answer, known, call, is))) =
-    status_says CheckSays check_says bytes input rest old new answer status short known call.answered is
-checked_says bytes old new status short (inl (CheckSource file, asked, ends)) =
-    absurd (no_seek asked.name asked.rows asked.entered asked.holds.2)
-checked_says bytes old new status short (inl (Show file, asked, inl (input, rest, answer, known, call, is))) =
-    status_says ShowSays show_says bytes input rest old new answer status short known call is
-checked_says bytes old new status short (inl (Rewrite file, asked, ends)) =
-    absurd (no_rewrite asked.name (asks_check asked.name asked.rows asked.entered) asked.holds.0)
-checked_says bytes old new status short (inl (Map base page rules files, asked, ends)) =
-    absurd (no_map asked.name (asks_check asked.name asked.rows asked.entered) asked.holds.0)
-checked_says bytes old new status short (inl (Link base page entry rules files, asked, ends)) =
-    absurd (no_link asked.name (asks_check asked.name asked.rows asked.entered) asked.holds.0)
-checked_says bytes old new status short (inl (Check file, asked, inr (fault, why, is, kept))) =
-    neither status bytes 3 (λ e. omega arith) (λ e. omega arith) (ap code_of is)
-checked_says bytes old new status short (inl (Show file, asked, inr (fault, why, is, kept))) =
-    neither status bytes 3 (λ e. omega arith) (λ e. omega arith) (ap code_of is)
-checked_says bytes old new status short (inr (words_fault.Words error, refused, ends)) =
-    neither status bytes 2 (λ e. omega arith) (λ e. omega arith) (ap code_of ends.0)
-checked_says bytes old new status short (inr (words_fault.TooManyFiles, refused, ends)) =
-    neither status bytes 2 (λ e. omega arith) (λ e. omega arith) (ap code_of ends.0)
-checked_says bytes old new status short (inr (words_fault.BadNumber, refused, ends)) =
-    neither status bytes 2 (λ e. omega arith) (λ e. omega arith) (ap code_of ends.0)
-checked_says bytes old new status short (inr (words_fault.OutOfMemory, refused, ends)) =
-    neither status bytes 3 (λ e. omega arith) (λ e. omega arith) (ap code_of ends.0)
-
-pub run_says : (words : List Text) (bytes : List ℕ) (old new : Option (List ℕ)) (status : Status) → words ≡ check_words →
+checked_says : (bytes : List ℕ) (asked : List Text → Type 0) (old new before after : Option (List ℕ)) (ended : Ended) →
     length bytes ≤ 2 ^ 30
-    → EndsRun words (λ name. Some bytes) (λ name. true) old new status → StatusSays status bytes
-run_says words bytes old new status same short ends =
-    checked_says bytes old new status short
-    (subst (λ (ws : List Text). EndsRun ws (λ name. Some bytes) (λ name. true) old new status) same ends)
+    → EndsRun check_words (λ name. Some bytes) (λ name. true) asked old new (EndsWith before after ended) → StatusSays ended.status bytes
+checked_says bytes asked old new before after ended short (inl (Check file, request, (just, inl (input, rest, answer, known, call, end)))) =
+    status_says CheckSays check_says bytes input rest old new answer ended.status short known call.answered end.0
+checked_says bytes asked old new before after ended short (inl (CheckSource file, request, ends)) =
+    absurd (no_seek request.name request.rows request.entered request.holds.2)
+checked_says bytes asked old new before after ended short (inl (Show file, request, (just, inl (input, rest, answer, known, call, end)))) =
+    status_says ShowSays show_says bytes input rest old new answer ended.status short known call end.0
+checked_says bytes asked old new before after ended short (inl (Rewrite file, request, ends)) =
+    absurd (no_rewrite request.name (asks_check request.name request.rows request.entered) request.holds.0)
+checked_says bytes asked old new before after ended short (inl (Map base page rules files, request, ends)) =
+    absurd (no_map request.name (asks_check request.name request.rows request.entered) request.holds.0)
+checked_says bytes asked old new before after ended short (inl (Link base page entry rules files, request, ends)) =
+    absurd (no_link request.name (asks_check request.name request.rows request.entered) request.holds.0)
+checked_says bytes asked old new before after ended short (inl (Check file, request, (just, inr (fault, why, end, kept)))) =
+    neither ended.status bytes 3 (λ e. omega arith) (λ e. omega arith) (ap code_of end.0)
+checked_says bytes asked old new before after ended short (inl (Show file, request, (just, inr (fault, why, end, kept)))) =
+    neither ended.status bytes 3 (λ e. omega arith) (λ e. omega arith) (ap code_of end.0)
+checked_says bytes asked old new before after ended short (inr (words_fault.Words error, refused, just, ends, kept)) =
+    neither ended.status bytes 2 (λ e. omega arith) (λ e. omega arith) (ap code_of ends.1.0)
+checked_says bytes asked old new before after ended short (inr (words_fault.TooManyFiles, refused, just, ends, kept)) =
+    neither ended.status bytes 2 (λ e. omega arith) (λ e. omega arith) (ap code_of ends.0)
+checked_says bytes asked old new before after ended short (inr (words_fault.BadNumber, refused, just, ends, kept)) =
+    neither ended.status bytes 2 (λ e. omega arith) (λ e. omega arith) (ap code_of ends.0)
+checked_says bytes asked old new before after ended short (inr (words_fault.OutOfMemory, refused, just, ends, kept)) =
+    neither ended.status bytes 3 (λ e. omega arith) (λ e. omega arith) (ap code_of ends.0)
+
+pub run_says : (words : List Text) (bytes : List ℕ) (asked : List Text → Type 0) (old new before after : Option (List ℕ))
+    (ended : Ended) → words ≡ check_words →
+    length bytes ≤ 2 ^ 30
+    → EndsRun words (λ name. Some bytes) (λ name. true) asked old new (EndsWith before after ended) → StatusSays ended.status bytes
+run_says words bytes asked old new before after ended same short ends =
+    checked_says bytes asked old new before after ended short
+    (subst (λ (ws : List Text). EndsRun ws (λ name. Some bytes) (λ name. true) asked old new (EndsWith before after ended)) same ends)
 
 -- ---- and of a check that seeks
 
@@ -197,31 +200,34 @@ source_says bytes content after old new (Ok (Refused refusal)) status known (kep
 source_says bytes content after old new (Err fault) status known call is =
     neither status bytes 3 (λ e. omega arith) (λ e. omega arith) (ap code_of is)
 
-sought_says : (bytes : List ℕ) (old new : Option (List ℕ)) (status : Status)
-    → EndsRun seek_words (λ name. Some bytes) (λ name. true) old new status → StatusSays status bytes
-sought_says bytes old new status (inl (Check file, asked, ends)) = absurd (seeks_not asked.name asked.rows asked.entered asked.holds.2)
-sought_says bytes old new status (inl (CheckSource file, asked, inl (content, after, answer, known, call, is))) =
-    source_says bytes content after old new answer status known call is
-sought_says bytes old new status (inl (CheckSource file, asked, inr (fault, why, is, kept))) =
-    neither status bytes 3 (λ e. omega arith) (λ e. omega arith) (ap code_of is)
-sought_says bytes old new status (inl (Show file, asked, ends)) =
-    absurd (no_show asked.name (seeks_by_check asked.name asked.rows asked.entered) asked.holds.0)
-sought_says bytes old new status (inl (Rewrite file, asked, ends)) =
-    absurd (no_rewrite asked.name (seeks_by_check asked.name asked.rows asked.entered) asked.holds.0)
-sought_says bytes old new status (inl (Map base page rules files, asked, ends)) =
-    absurd (no_map asked.name (seeks_by_check asked.name asked.rows asked.entered) asked.holds.0)
-sought_says bytes old new status (inl (Link base page entry rules files, asked, ends)) =
-    absurd (no_link asked.name (seeks_by_check asked.name asked.rows asked.entered) asked.holds.0)
-sought_says bytes old new status (inr (words_fault.Words error, refused, ends)) =
-    neither status bytes 2 (λ e. omega arith) (λ e. omega arith) (ap code_of ends.0)
-sought_says bytes old new status (inr (words_fault.TooManyFiles, refused, ends)) =
-    neither status bytes 2 (λ e. omega arith) (λ e. omega arith) (ap code_of ends.0)
-sought_says bytes old new status (inr (words_fault.BadNumber, refused, ends)) =
-    neither status bytes 2 (λ e. omega arith) (λ e. omega arith) (ap code_of ends.0)
-sought_says bytes old new status (inr (words_fault.OutOfMemory, refused, ends)) =
-    neither status bytes 3 (λ e. omega arith) (λ e. omega arith) (ap code_of ends.0)
+sought_says : (bytes : List ℕ) (asked : List Text → Type 0) (old new before after : Option (List ℕ)) (ended : Ended)
+    → EndsRun seek_words (λ name. Some bytes) (λ name. true) asked old new (EndsWith before after ended) → StatusSays ended.status bytes
+sought_says bytes asked old new before after ended (inl (Check file, request, ends)) =
+    absurd (seeks_not request.name request.rows request.entered request.holds.2)
+sought_says bytes asked old new before after ended (inl (CheckSource file, request, (just, inl (content, rest, answer, known, call, e)))) =
+    source_says bytes content rest old new answer ended.status known call e.0
+sought_says bytes asked old new before after ended (inl (CheckSource file, request, (just, inr (fault, why, end, kept)))) =
+    neither ended.status bytes 3 (λ e. omega arith) (λ e. omega arith) (ap code_of end.0)
+sought_says bytes asked old new before after ended (inl (Show file, request, ends)) =
+    absurd (no_show request.name (seeks_by_check request.name request.rows request.entered) request.holds.0)
+sought_says bytes asked old new before after ended (inl (Rewrite file, request, ends)) =
+    absurd (no_rewrite request.name (seeks_by_check request.name request.rows request.entered) request.holds.0)
+sought_says bytes asked old new before after ended (inl (Map base page rules files, request, ends)) =
+    absurd (no_map request.name (seeks_by_check request.name request.rows request.entered) request.holds.0)
+sought_says bytes asked old new before after ended (inl (Link base page entry rules files, request, ends)) =
+    absurd (no_link request.name (seeks_by_check request.name request.rows request.entered) request.holds.0)
+sought_says bytes asked old new before after ended (inr (words_fault.Words error, refused, just, ends, kept)) =
+    neither ended.status bytes 2 (λ e. omega arith) (λ e. omega arith) (ap code_of ends.1.0)
+sought_says bytes asked old new before after ended (inr (words_fault.TooManyFiles, refused, just, ends, kept)) =
+    neither ended.status bytes 2 (λ e. omega arith) (λ e. omega arith) (ap code_of ends.0)
+sought_says bytes asked old new before after ended (inr (words_fault.BadNumber, refused, just, ends, kept)) =
+    neither ended.status bytes 2 (λ e. omega arith) (λ e. omega arith) (ap code_of ends.0)
+sought_says bytes asked old new before after ended (inr (words_fault.OutOfMemory, refused, just, ends, kept)) =
+    neither ended.status bytes 3 (λ e. omega arith) (λ e. omega arith) (ap code_of ends.0)
 
-pub seek_run_says : (words : List Text) (bytes : List ℕ) (old new : Option (List ℕ)) (status : Status) → words ≡ seek_words
-    → EndsRun words (λ name. Some bytes) (λ name. true) old new status → StatusSays status bytes
-seek_run_says words bytes old new status same ends =
-    sought_says bytes old new status (subst (λ (ws : List Text). EndsRun ws (λ name. Some bytes) (λ name. true) old new status) same ends)
+pub seek_run_says : (words : List Text) (bytes : List ℕ) (asked : List Text → Type 0) (old new before after : Option (List ℕ))
+    (ended : Ended) → words ≡ seek_words
+    → EndsRun words (λ name. Some bytes) (λ name. true) asked old new (EndsWith before after ended) → StatusSays ended.status bytes
+seek_run_says words bytes asked old new before after ended same ends =
+    sought_says bytes asked old new before after ended
+    (subst (λ (ws : List Text). EndsRun ws (λ name. Some bytes) (λ name. true) asked old new (EndsWith before after ended)) same ends)

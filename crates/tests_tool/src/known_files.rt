@@ -3,11 +3,11 @@
 ghost use Rattle.std.specs.Prelude.{◌≡◌, ℕ, ◌≤◌, length, None, Some, true};
 ghost use Rattle.elf_image_rules.specs.Rules.{MAX_LEN, IsFault};
 
-use elf_image_stream::Bytes;
+use elf_image_stream::Seeking;
 use elf_tool_program::{OpenFault, Opener, run};
 use std::alloc::Global;
 use std::io;
-use std::io::Read;
+use std::io::{Cursor, Read};
 
 /// How many bytes a read gives at most.
 const PIECE: usize = 7;
@@ -36,7 +36,8 @@ pub struct KnownFile<'a> {
 impl<'a> Opener for KnownFile<'a> {
     type Input = KnownBytes<'a>;
 
-    type Seek = Bytes<'a>;
+    // What seeks in a file of the machine seeks here too.
+    type Seek = Seeking<Cursor<&'a [u8]>>;
 
     ghost holds = { λ files _. Some files.bytes.now };
 
@@ -46,8 +47,8 @@ impl<'a> Opener for KnownFile<'a> {
         Ok(KnownBytes { bytes: self.bytes })
     }
 
-    fn source(&mut self, _name: &str) -> Result<Bytes<'a>, OpenFault> {
-        Ok(Bytes(self.bytes))
+    fn source(&mut self, _name: &str) -> Result<Seeking<Cursor<&'a [u8]>>, OpenFault> {
+        Ok(Seeking::new(Cursor::new(self.bytes)))
     }
 }
 

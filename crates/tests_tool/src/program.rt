@@ -3,7 +3,7 @@
 use crate::asserts::assert_same;
 use elf_image_stream::Bytes;
 use elf_tool_program::{
-    MachineFiles, OpenFault, Opener, ToolFault, Verdict, check, refuse_words, run,
+    MachineFiles, OpenFault, Opener, ToolFault, Verdict, check, refuse_words, run, run_to_end,
 };
 use elf_tool_text::line::{begin_line, end_line, push_decimal, push_hexadecimal};
 use std::alloc::Global;
@@ -224,6 +224,25 @@ fn an_empty_command_line(rt: HostRuntime) {
         [b"", name.err.text()],
     );
     assert!(rt; !none.err.text().is_empty());
+}
+
+/// How the program ends if its file does not open, with room for so many bytes on standard error.
+fn unopened_with_room(alloc: Global, room: usize) -> (u8, bool) {
+    let mut out = LimitedWriter::new(ROOM);
+    let mut err = LimitedWriter::new(room);
+    let words = ["elfmap", "check", "b.o"];
+    let ended = run_to_end(alloc, &words, &mut OneFile, &mut out, &mut err);
+    (ended.status as u8, ended.printed)
+}
+
+// A text that standard error took is said to be printed, and one that was cut is not.
+#[test]
+fn a_cut_text_is_not_printed(rt: HostRuntime) {
+    let found = [
+        unopened_with_room(rt.alloc(), ROOM),
+        unopened_with_room(rt.alloc(), 5),
+    ];
+    assert_same(&rt, found, [(3, true), (3, false)]);
 }
 
 /// The status and the text that the program ends with where the machine gives no words.

@@ -1,6 +1,6 @@
 use Rattle.elf_tool_show.specs.Show.{ShowSays}
 use Rattle.elf_c_engines.specs.Calls.{IsWantOfMemory}
-use Rattle.elf_c_engines.proofs.Kept.{exact_told, shown_text, whole_said}
+use Rattle.elf_c_engines.proofs.Kept.{exact_returned, shown_text, whole_said}
 use Rattle.elf_c_engines.proofs.exports.show_within.Goals as goal
 
 pub returns-in-Ok : goal.returns-in-Ok
@@ -11,4 +11,4 @@ returns-in-Ok c =
 
 pub returns-in-Ok-show_length : goal.returns-in-Ok-show_length
 returns-in-Ok-show_length c =
-    exact_told IsWantOfMemory (ShowSays c.args.bytes.now) _ _ _ tt c.unkept.result c.in-Ok-show_length.ensures c.unkept.ensures
+    exact_returned IsWantOfMemory (ShowSays c.args.bytes.now) _ _ _ tt c.unkept.result c.in-Ok-show_length.ensures c.unkept.ensures

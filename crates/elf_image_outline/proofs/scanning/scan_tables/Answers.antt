@@ -62,4 +62,4 @@ returns-clause-known g c b known says is =
     is (ap (λ (k : Counts). k.sections) (counts_are b h first _ is read c.counts_of-counts.ensures.value))
     (λ some. first_at b h first counts.sections read counted some))
     (rw c.order_in-order.ensures at
-    (c.in_ok-segments.ensures.ok.told b (c.in_ok-sections.ensures.kept ∙ c.in_ok-first.ensures.kept ∙ known)))
+    (c.in_ok-segments.ensures.ok.known b (c.in_ok-sections.ensures.kept ∙ c.in_ok-first.ensures.kept ∙ known)))

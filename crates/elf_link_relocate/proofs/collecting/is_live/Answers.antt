@@ -6,7 +6,7 @@ use Rattle.std.specs.Prelude.{Bool, Option, None, Some}
 use Rattle.elf_object_type.specs.Object.{ObjectValue}
 use Rattle.elf_link_files.specs.Files.{Live}
 use Rattle.elf_link_outputs.specs.Placed.{cell}
-use Rattle.elf_link_map.specs.Standing.{StandApart}
+use Rattle.elf_link_map.specs.Standing.{ArePlacedApart}
 use Rattle.elf_link_map.specs.LinkMap.{LinkMapValue}
 use Rattle.elf_link_relocate.specs.Passes.{LinkingValue}
 use Rattle.elf_link_relocate.proofs.Memories.{live_in}
@@ -17,7 +17,7 @@ number_in None is = absurd (cc)
 number_in (Some a) is = (a, refl)
 
 -- a section is live where its cell has an address
-live_by_cell : (fs : List ObjectValue) (m : LinkMapValue) (f s : ℕ) (o : Option ℕ) → StandApart fs m → f < length fs →
+live_by_cell : (fs : List ObjectValue) (m : LinkMapValue) (f s : ℕ) (o : Option ℕ) → ArePlacedApart fs m → f < length fs →
     o ≡ cell m.addresses f s →
     IsTrue (is_some o) ↔ Live fs f s
 live_by_cell fs m f s o stand file same = (

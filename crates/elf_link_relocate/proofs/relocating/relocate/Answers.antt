@@ -1,6 +1,6 @@
 -- What `relocate` says beyond `relocate_indexed` follows from its answer: laws of relocated bytes and of faults, under the result.
 use Rattle.std.specs.Prelude.{None}
-use Rattle.elf_link_files.specs.Rows.{FirstAmong}
+use Rattle.elf_link_files.specs.Rows.{FirstAt}
 use Rattle.elf_link_map.specs.LinkMap.{IsOnlyFault, IsOnlyFirst}
 use Rattle.elf_link_relocate.specs.Fields.{IsRelocationFault, applied_entry_rules}
 use Rattle.elf_link_relocate.specs.Linked.{FieldsHoldNumbers, IsLinked, IsOnlyLinked}
@@ -33,7 +33,7 @@ returns-clause-only_sound c =
     let fs = c.args.objects.now in
     let m = c.args.map.now in
     let rules = c.args.rules.now in
-    on_ok_linked (IsLinked fs m rules) (IsOnlyFirst (FirstAmong (applied_entry_rules fs m rules)) None) c.relocate_indexed.result
+    on_ok_linked (IsLinked fs m rules) (IsOnlyFirst (FirstAt (applied_entry_rules fs m rules)) None) c.relocate_indexed.result
     (λ l is. only_first fs m rules None is.sound) c.relocate_indexed.ensures.linked
 
 pub returns-clause-only_err : goal.returns-clause-only_err
@@ -41,5 +41,5 @@ returns-clause-only_err c =
     let fs = c.args.objects.now in
     let m = c.args.map.now in
     let rules = c.args.rules.now in
-    if_err_linked (IsRelocationFault fs m rules) (IsOnlyFault (FirstAmong (applied_entry_rules fs m rules))) c.relocate_indexed.result
+    if_err_linked (IsRelocationFault fs m rules) (IsOnlyFault (FirstAt (applied_entry_rules fs m rules))) c.relocate_indexed.result
     (only_fault fs m rules) c.relocate_indexed.ensures.err

@@ -1,7 +1,7 @@
 -- The values are those of the link that was asked for, so copies that hold the numbers of all its fields are those of the link.
 use Rattle.std.proofs.Common.{subst}
 use Rattle.std.specs.Prelude.{None}
-use Rattle.elf_link_files.specs.Rows.{FirstAmong}
+use Rattle.elf_link_files.specs.Rows.{FirstAt}
 use Rattle.elf_link_relocate.specs.Passes.{AreRelocatedCopies, copies_view, LinkingValue}
 use Rattle.elf_link_relocate.specs.Fields.{applied_entry_rules}
 use Rattle.elf_link_relocate.proofs.Memories.{sound_of, linked_of}
@@ -21,5 +21,5 @@ returns-clause-linked c =
     let (ds, validated, are) =
     subst (λ (v : LinkingValue). AreRelocatedCopies v.objects v.map v.rules rows) values c.in_ok-copies.ensures.copies in
     let none = subst
-    (λ (v : LinkingValue). FirstAmong (applied_entry_rules v.objects v.map v.rules) None) values c.in_ok-copies.ensures.sound in
+    (λ (v : LinkingValue). FirstAt (applied_entry_rules v.objects v.map v.rules) None) values c.in_ok-copies.ensures.sound in
     linked_of fs m rules ds validated sound.places rows are none

@@ -9,12 +9,12 @@ use Rattle.elf_object_type.specs.Object.{ObjectValue}
 use Rattle.elf_image_rules.proofs.Public.{one_fault}
 use Rattle.elf_table_symbols.proofs.Public.{its_file, tested_told}
 use Rattle.elf_table_symbols.specs.Sections.{Sections, sections_of}
-use Rattle.elf_table_symbols.specs.Verdicts.{IsValidatedBehind}
+use Rattle.elf_table_symbols.specs.Verdicts.{IsValidatedAfter}
 use Rattle.elf_object_reader.proofs.ObjectKept.{one_object}
 use Rattle.elf_object_reader.proofs.reading.object_of.Goals as goal
 
-denoted_only : (f : Sections) (result : Result ObjectValue Fault) → IsValidatedBehind (front_rules f) (file_rules f) (Denotes f) result →
-    IsValidatedBehind (front_rules f) (file_rules f) (DenotesOnly f) result
+denoted_only : (f : Sections) (result : Result ObjectValue Fault) → IsValidatedAfter (front_rules f) (file_rules f) (Denotes f) result →
+    IsValidatedAfter (front_rules f) (file_rules f) (DenotesOnly f) result
 denoted_only f (Ok o) (kept, denotes) = (kept, (denotes, λ other denoted. one_object f other o denoted denotes))
 denoted_only f (Err (Rule number at)) validated = validated
 denoted_only f (Err OutOfMemory) validated = validated

@@ -12,5 +12,5 @@ returns-in-Ok g c =
 
 pub returns-in-Err : goal.returns-in-Err
 returns-in-Err g c =
-    at_once _ _ _ _ c.tell_unlinked.result
-    (λ v text said. files_refused _ _ _ c.in-Err.unlinked v text c.in-Err.ensures said) c.tell_unlinked.ensures
+    at_once _ _ _ _ c.write_unlinked.result
+    (λ v text said. files_refused _ _ _ c.in-Err.unlinked v text c.in-Err.ensures said) c.write_unlinked.ensures

@@ -3,7 +3,7 @@
 use Rattle.std.proofs.Common.{◌≡◌, ◌∙◌, ◌<◌, ◌+◌, ◌-◌, ◌/◌, ◌^◌, ◌∷◌, ℕ, ap, arith, refl, false, drop, length, set, subst, sym}
 use Rattle.std.specs.Fmt.{digits, digits_onto}
 use Rattle.std.proofs.lemmas.List.{length-append, length-drop, length-set}
-use Rattle.elf_tool_text.proofs.TextLines.{digits_behind_all, fits_less, last_digit, more_digits, place_left, places_left, put_before}
+use Rattle.elf_tool_text.proofs.TextLines.{digits_append_all, fits_less, last_digit, more_digits, place_left, places_left, put_before}
 use Rattle.elf_tool_text.proofs.digits.put_digits.Goals as goal
 
 pub loop-rest-init : goal.loop-rest-init
@@ -16,7 +16,7 @@ loop-rest-init c =
       places = omega arith;
       small = subst (λ (k : ℕ). a.number < 2 ^ k) (sym all) c.ranges.number.fits;
       put = ap (λ (k : ℕ). digits_onto k a.base false a.number (drop a.end a.out.now)) all ∙
-          digits_behind_all a.base a.number (drop a.end a.out.now);
+          digits_append_all a.base a.number (drop a.end a.out.now);
     }
 
 pub overflow_sub-start : goal.overflow_sub-start

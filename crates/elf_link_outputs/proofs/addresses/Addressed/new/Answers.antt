@@ -2,7 +2,7 @@
 use Rattle.std.proofs.Common.{◌≡◌, ℕ, List, IfErr, length, rules, refl, sym, ◌∙◌, ap, subst}
 use Rattle.std.specs.Prelude.{None}
 use Rattle.elf_extent.specs.Place.{EndsFit, Least}
-use Rattle.elf_link_files.specs.Rows.{FirstAmong}
+use Rattle.elf_link_files.specs.Rows.{FirstAt}
 use Rattle.elf_link_outputs.specs.Addresses.{IsAddressFault, HasValue, IsTargetBelow, address_rules}
 use Rattle.elf_link_outputs.specs.Outputs.{PlanValue, plan_parts}
 use Rattle.elf_link_outputs.proofs.Placings.{plan_long}
@@ -39,7 +39,7 @@ returns-clause-ok c =
     let found = c.in_ok-found.found in
     record {
       plan = refl;
-      sound = subst (λ (ps : List (ℕ × ℕ)). FirstAmong (address_rules ps c.args.base c.args.target) None) parts c.in_ok-found.ensures.sound;
+      sound = subst (λ (ps : List (ℕ × ℕ)). FirstAt (address_rules ps c.args.base c.args.target) None) parts c.in_ok-found.ensures.sound;
       least = subst (λ (ps : List (ℕ × ℕ)). Least ps c.args.base found.places.items) parts c.in_ok-found.ensures.least;
       fits = subst (λ (ps : List (ℕ × ℕ)). EndsFit ps found.places.items (length ps)) parts c.in_ok-found.ensures.fits;
       entry = subst (λ (ps : List (ℕ × ℕ)). HasValue ps c.args.base c.args.target found.entry) parts c.in_ok-found.ensures.entry;
