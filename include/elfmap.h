@@ -408,9 +408,9 @@ bool elfmap_find(const struct elfmap_table *table, const uint8_t *bytes, size_t 
 /*
  * ---- Engines: what the commands `show`, `rewrite`, `map` and `link` of the program `elfmap` write, of bytes in memory.
  *
- * The output of an engine, a text or a file, is put into a buffer of `size` bytes that the caller lends. Each call returns a status and
- * fills in `outcome`, whatever the status. A number in it that has no meaning for the status is 0. The three calls named ..verdict and
- * ..verdicts have no output, and never return ELFMAP_SMALL_ROOM; of the others:
+ * The output of an engine, a text or a file, is put into a buffer of `size` bytes that the caller lends. Each call returns a status. Each
+ * but elfmap_link_place fills in `outcome`, whatever the status. A number in it that has no meaning for the status is 0. The three calls
+ * named ..verdict and ..verdicts, and elfmap_link_place, have no output, and never return ELFMAP_SMALL_ROOM; of the others:
  *
  * - If the status is ELFMAP_DONE, ELFMAP_REFUSED, ELFMAP_NOT_LINKED or ELFMAP_TOO_LONG, the first `outcome->length` bytes of the buffer are
  *   the whole output, and the bytes after them are unchanged.
@@ -430,10 +430,9 @@ bool elfmap_find(const struct elfmap_table *table, const uint8_t *bytes, size_t 
  * The engines take memory by the three functions at the end of this file; a program that calls no engine needs none of them. A call holds
  * the records and tables of a file, or the objects of several files, their link map and copies of sections with bits, but no copy of the
  * files. Of its output it holds as many bytes as the buffer has, or twice as many while they grow. If the output is longer, these are freed,
- * and its length is found without it: that takes as much time again as without a buffer. `elfmap_rewrite` finds the length first, and
- * `elfmap_refused_tables` holds its whole output. A call frees all its memory before it returns, whatever the status. It keeps no state, so
- * calls may run at the same time in several threads if these three functions may. After an allocation that failed a call may ask again,
- * before it ends with ELFMAP_NO_MEMORY.
+ * and its length is found without it: that takes as much time again as without a buffer. `elfmap_rewrite` finds the length first. A call
+ * frees all its memory before it returns, whatever the status. It keeps no state, so calls may run at the same time in several threads if
+ * these three functions may. After an allocation that failed a call may ask again, before it ends with ELFMAP_NO_MEMORY.
  */
 
 /* What an engine returns, a `uint32_t`. */
@@ -476,19 +475,12 @@ struct elfmap_options {
 uint32_t elfmap_show(const uint8_t *bytes, size_t len, uint8_t *buffer, size_t size, struct elfmap_outcome *outcome);
 
 /*
- * The lines `refused I RULE AT` of `elfmap show`: for each table that breaks a rule its section, the first rule broken, and the lowest
- * offset. A file whose tables break none has no line. Returns ELFMAP_DONE; or, without output, ELFMAP_REFUSED by a rule of images. The
- * memory that it takes does not grow with the entries of the tables, except of one section group or hash table at a time. In hash
- * tables, names of symbols of more than 64 bytes take memory too: a few bytes for each place where such a name begins. Such a name is
- * read once for each of these places.
- */
-uint32_t elfmap_refused_tables(const uint8_t *bytes, size_t len, uint8_t *buffer, size_t size, struct elfmap_outcome *outcome);
-
-/*
- * The same as numbers, without a text: slot k of the buffer gets the first of rules 40 to 69 that the table in section `first` + k breaks,
- * with its lowest offset, or rule 0 if it breaks none or the section holds no table. Returns ELFMAP_DONE, and `outcome->length` is how many
- * slots were filled: as many as there are sections from `first` on, but no more than `count`. The other slots are unchanged. Or it returns
- * ELFMAP_REFUSED by a rule of images. If it returns anything but ELFMAP_DONE, the buffer is unchanged.
+ * The verdicts on tables: slot k of the buffer gets the first of rules 40 to 69 that the table in section `first` + k breaks, with its
+ * lowest offset, or rule 0 if it breaks none or the section holds no table. Returns ELFMAP_DONE, and `outcome->length` is how many slots
+ * were filled: as many as there are sections from `first` on, but no more than `count`. The other slots are unchanged. Or it returns
+ * ELFMAP_REFUSED by a rule of images. If it returns anything but ELFMAP_DONE, the buffer is unchanged. The memory that it takes does not
+ * grow with the entries of the tables, except of one section group or hash table at a time. In hash tables, names of symbols of more than
+ * 64 bytes take memory too: a few bytes for each place where such a name begins. Such a name is read once for each of these places.
  */
 uint32_t elfmap_table_verdicts(const uint8_t *bytes, size_t len, uint64_t first, struct elfmap_fault *buffer, size_t count,
                                struct elfmap_outcome *outcome);
@@ -531,6 +523,29 @@ uint32_t elfmap_link(const struct elfmap_bytes *files, size_t count, const struc
  */
 uint32_t elfmap_link_verdict(const struct elfmap_bytes *files, size_t count, const struct elfmap_options *options, const uint8_t *entry,
                              size_t entry_len, const uint8_t *rules, size_t rules_len, struct elfmap_outcome *outcome);
+
+/* What a broken rule of the link is about. A number that has no meaning is 0. */
+struct elfmap_link_place {
+    uint64_t section; /* the index of the section that the rule is about, or of the section that holds the symbol or the relocation */
+    uint64_t entry;   /* the index of the symbol or the relocation in that section; of a section 0 */
+    struct elfmap_extent record; /* where the section header, the symbol or the relocation is in the file; `len` is 0 if there is none */
+    struct elfmap_extent name;   /* where the name of the symbol is in the file, or of the symbol that the relocation refers to, without its
+                                    closing zero; `len` is 0 if it has no name */
+    uint64_t first_file;         /* of rule 8 the file of the first definition of the name */
+    uint64_t first_index;        /* its position in that file, as `index` of an outcome */
+};
+
+/*
+ * What a rule of the link is about that `count` files break: `rule`, `file`, `index` and `entry` are those of an outcome with the status
+ * ELFMAP_NOT_LINKED (in `entry` its `at`) or of a line `refused RULE FILE INDEX ENTRY`. Rules 3 to 5 are about a section header, 6 to 9
+ * about a symbol, 12 to 16 about a relocation; the others are about no record, and neither is one that is not there, or in a file that is
+ * refused. Of a file that is an object it is the one at this position of the object: sections count without those that an object leaves
+ * out, and symbols from symbol 1 on. `first_file` and `first_index` are the first GLOBAL definition of the name that the symbol of rule 8
+ * has, if each file is an object: in the order of the files and their symbols, and not in a section that the link discards. If a file is no
+ * object they are 0, as those of symbol 1 of file 0 are too. Returns ELFMAP_DONE; or ELFMAP_NO_MEMORY, and then the struct is unchanged.
+ */
+uint32_t elfmap_link_place(const struct elfmap_bytes *files, size_t count, uint16_t rule, uint64_t file, uint64_t index, uint64_t entry,
+                           struct elfmap_link_place *place);
 
 /*
  * ---- The memory of the engines. The library defines these three functions over malloc, realloc and free. If a program defines all three,

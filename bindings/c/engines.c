@@ -90,7 +90,7 @@ void elfmap_dealloc(void *start) {
 
 /* ---- A call, and what it answers. */
 
-enum engine { SHOW, REWRITE, REFUSED_TABLES, MAP, LINK };
+enum engine { SHOW, REWRITE, MAP, LINK };
 enum { SLOTS = 8 };
 
 struct call {
@@ -118,8 +118,6 @@ static uint32_t called(const struct call *it, uint8_t *room, size_t size, struct
         return elfmap_show(it->bytes, it->len, room, size, outcome);
     case REWRITE:
         return elfmap_rewrite(it->bytes, it->len, room, size, outcome);
-    case REFUSED_TABLES:
-        return elfmap_refused_tables(it->bytes, it->len, room, size, outcome);
     case MAP:
         return elfmap_map(it->files, it->count, &it->options, it->rules, it->rules_len, room, size, outcome);
     default:
@@ -332,15 +330,6 @@ static void check_show(void) {
     check_answer(&call, ELFMAP_REFUSED, numbers_of(0, 3, 0, 3), "refused 3 3\n", "a wrong magic number is refused");
 }
 
-static void check_refused_tables(void) {
-    uint8_t bytes[OBJECT_SIZE];
-    make_object(bytes);
-    struct call call = a_call(REFUSED_TABLES, bytes, OBJECT_SIZE);
-    check_answer(&call, ELFMAP_DONE, no_numbers, "", "no table of an object is refused");
-    call.len = 63;
-    check_answer(&call, ELFMAP_REFUSED, numbers_of(0, 2, 0, 63), "", "63 bytes are refused, without a line");
-}
-
 /* ---- Verdicts without output. */
 
 enum verdict { TABLES, OBJECT, LINKED };
@@ -403,7 +392,7 @@ static void check_table_verdicts(void) {
     uint8_t bytes[OBJECT_SIZE];
     struct elfmap_outcome five = {5, 0, 0, 0, 0}, two = {2, 0, 0, 0, 0}, three = {3, 0, 0, 0, 0};
     make_object(bytes);
-    struct call call = a_call(REFUSED_TABLES, bytes, OBJECT_SIZE);
+    struct call call = a_call(SHOW, bytes, OBJECT_SIZE);
     struct found found = check_verdict(TABLES, &call, ELFMAP_DONE, five, "an object of five sections has five verdicts");
     for (int k = 0; k < 5; k++)
         check(is_fault(found.faults[k], 0, 0), "none of its tables breaks a rule");
@@ -592,6 +581,8 @@ static void check_link_verdict(void) {
     check_verdict(LINKED, &call, ELFMAP_BAD_RULES, numbers_of(0, 0, 0, 1), "a line without its end is bad");
 }
 
+#include "link_places.h"
+
 /* Bytes that are one too many for a file: none of them is looked at. */
 static void check_too_many(void) {
     const size_t len = (UINT64_C(1) << 30) + 1;
@@ -606,8 +597,6 @@ static void check_too_many(void) {
     check_answer(&call, ELFMAP_REFUSED, numbers, "refused 1 1073741824\n", "too long a file is refused by show");
     call.engine = REWRITE;
     check_answer(&call, ELFMAP_REFUSED, numbers, "", "by rewrite");
-    call.engine = REFUSED_TABLES;
-    check_answer(&call, ELFMAP_REFUSED, numbers, "", "by the look at its tables");
     call.engine = MAP;
     check_answer(&call, ELFMAP_REFUSED, numbers, "file 0 refused 1 1073741824\n", "by map");
     call.engine = LINK;
@@ -628,10 +617,8 @@ static void check_null(void) {
     uint8_t bytes[HEADER_SIZE];
     struct elfmap_outcome outcome;
     check(elfmap_show(NULL, 0, NULL, 0, &outcome) == ELFMAP_SMALL_ROOM && outcome.length == 12, "null is shown as no bytes are");
-    uint32_t status = elfmap_refused_tables(NULL, 0, NULL, 0, &outcome);
+    uint32_t status = elfmap_table_verdicts(NULL, 0, 0, NULL, 0, &outcome);
     check(is_refused_as_short(status, outcome), "it has no tables");
-    status = elfmap_table_verdicts(NULL, 0, 0, NULL, 0, &outcome);
-    check(is_refused_as_short(status, outcome), "nor verdicts on them");
     status = elfmap_rewrite(NULL, 0, NULL, 0, &outcome);
     check(is_refused_as_short(status, outcome), "it is not rewritten");
     status = elfmap_object_verdict(NULL, 0, &outcome);
@@ -744,7 +731,7 @@ static uint64_t number_of(const char *word) {
 }
 
 static int run_engine(int count, char **words) {
-    static const char *const engines[] = {"show", "rewrite", "refused-tables", "map", "link"};
+    static const char *const engines[] = {"show", "rewrite", "map", "link"};
     uint8_t *rules = malloc(1);
     struct elfmap_bytes *files = malloc((size_t) count * sizeof *files);
     if (!files || !rules)
@@ -790,7 +777,6 @@ int main(int count, char **words) {
     if (count > 2)
         return run_engine(count, words);
     check_show();
-    check_refused_tables();
     check_table_verdicts();
     check_rewrite();
     check_object_verdict();
@@ -798,6 +784,7 @@ int main(int count, char **words) {
     check_files_apart();
     check_link();
     check_link_verdict();
+    check_link_places();
     check_too_many();
     check_null();
 #ifndef OVER_MALLOC

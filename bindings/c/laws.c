@@ -10,6 +10,7 @@
  * - the words of groups and hash tables are those of the lines of `show`, and come many at once as one by one;
  * - as many notes are read as are counted, and each has its bytes; a section of a name has it, and none before it has;
  * - a link of the copy answers with a room of no bytes how long it is, and what is linked is accepted;
+ * - the record that a rule of the link is about is the one at its place, by its section, its entry and its name;
  * - `map` by relocation rules says first what it says without, and is refused as the link is, but for the entry symbol; each byte that it
  *   prints of a section is in the memory of what is linked, at the section's address.
  *
@@ -72,9 +73,6 @@ static void refused(const uint8_t *bytes, size_t len, struct elfmap_fault fault)
     holds(outcome.length == (uint64_t) size && memcmp(text, line, (size_t) size) == 0, "show says another line");
     status = elfmap_rewrite(bytes, len, text, ROOM, &outcome);
     holds(status == ELFMAP_REFUSED && outcome.rule == fault.rule && outcome.at == fault.at, "rewrite refuses otherwise");
-    status = elfmap_refused_tables(bytes, len, text, ROOM, &outcome);
-    holds(status == ELFMAP_REFUSED && outcome.rule == fault.rule && outcome.at == fault.at && outcome.length == 0,
-          "the look at the tables refuses otherwise");
     status = elfmap_table_verdicts(bytes, len, 0, faults, MANY, &outcome);
     holds(status == ELFMAP_REFUSED && outcome.rule == fault.rule && outcome.at == fault.at && outcome.length == 0,
           "the verdicts on the tables refuse otherwise");
@@ -83,46 +81,38 @@ static void refused(const uint8_t *bytes, size_t len, struct elfmap_fault fault)
           "the verdict on the object refuses otherwise");
 }
 
+/* Where the first line of a text from `k` on begins that is about a table which breaks a rule; or the length of the text. */
+static uint64_t refusal_from(const uint8_t *lines, uint64_t size, uint64_t k) {
+    while (k < size && (size - k < 8 || memcmp(lines + k, "refused ", 8) != 0)) {
+        while (lines[k] != '\n')
+            k++;
+        k++;
+    }
+    return k;
+}
+
 /* The slots of the verdicts on tables are the lines of `show` that begin with `refused`, and the others have no rule. */
-static void table_verdicts(const struct elfmap_file *file, const uint8_t *bytes, size_t len, const uint8_t *lines, uint64_t size) {
-    struct elfmap_outcome outcome;
+static void table_verdicts(const struct elfmap_file *file, const uint8_t *bytes, size_t len) {
+    struct elfmap_outcome outcome, shown;
     memset(faults, 0x5a, sizeof faults);
     if (!holds(elfmap_table_verdicts(bytes, len, 0, faults, MANY, &outcome) == ELFMAP_DONE, "the tables are refused with the file"))
         return;
     holds(outcome.length == file->sections, "there are other tables than sections");
-    for (uint64_t k = 0, i = 0; i < outcome.length; i++) {
-        char *rest = (char *) lines + k + 8;
-        if (k == size || strtoull(rest, &rest, 10) != i) {
+    if (elfmap_show(bytes, len, text, ROOM, &shown) != ELFMAP_DONE)
+        return;
+    uint64_t k = refusal_from(text, shown.length, 0);
+    for (uint64_t i = 0; i < outcome.length; i++) {
+        char *rest = (char *) text + k + 8;
+        if (k == shown.length || strtoull(rest, &rest, 10) != i) {
             holds(faults[i].rule == 0 && faults[i].at == 0, "a table has a verdict that show does not print");
             continue;
         }
         uint64_t rule = strtoull(rest, &rest, 10);
         uint64_t at = strtoull(rest, &rest, 10);
         holds(faults[i].rule == rule && faults[i].at == at, "a table has another verdict");
-        k = (uint64_t) (rest + 1 - (const char *) lines);
+        k = refusal_from(text, shown.length, (uint64_t) (rest + 1 - (char *) text));
     }
-}
-
-/* What is said of the tables alone is what `show` says of those that are refused: its lines that begin so. */
-static void refused_tables(const struct elfmap_file *file, const uint8_t *bytes, size_t len) {
-    struct elfmap_outcome outcome, shown;
-    uint64_t at = 0;
-    if (!holds(elfmap_refused_tables(bytes, len, again, ROOM, &outcome) == ELFMAP_DONE, "the tables are refused with the file"))
-        return;
-    if (elfmap_show(bytes, len, text, ROOM, &shown) != ELFMAP_DONE)
-        return;
-    for (uint64_t k = 0, end; k < shown.length; k = end) {
-        for (end = k; text[end] != '\n'; end++)
-            ;
-        end++;
-        if (end - k < 8 || memcmp(text + k, "refused ", 8) != 0)
-            continue;
-        if (!holds(outcome.length - at >= end - k && memcmp(again + at, text + k, end - k) == 0, "a refused table is left out"))
-            return;
-        at += end - k;
-    }
-    holds(at == outcome.length, "a table is refused that show shows");
-    table_verdicts(file, bytes, len, again, outcome.length);
+    holds(k == shown.length, "show prints of a table that it is refused, and it has no verdict");
 }
 
 static void account(const struct elfmap_file *file, const uint8_t *bytes, size_t len) {
@@ -305,6 +295,37 @@ static void mapped(const uint8_t *bytes, size_t len, const uint8_t *rules, size_
         line_of_map(&file, text, other.length, (const char *) again + at);
 }
 
+/* The record that a rule of the link is about is the one that the accessors find at its place, and its name is that of its symbol. */
+static void place_of_rule(const uint8_t *bytes, size_t len, struct elfmap_outcome at) {
+    struct elfmap_bytes files[] = {{bytes, len}};
+    struct elfmap_link_place place;
+    struct elfmap_place found;
+    struct elfmap_file file;
+    struct elfmap_table table;
+    struct elfmap_symbol symbol;
+    bool is_of_section = at.rule >= 3 && at.rule <= 5, is_of_symbol = at.rule >= 6 && at.rule <= 9;
+    uint64_t owner;
+    if (!holds(elfmap_link_place(files, 1, at.rule, at.file, at.index, at.at, &place) == ELFMAP_DONE, "a rule is about nothing"))
+        return;
+    if (!is_of_section && !is_of_symbol && (at.rule < 12 || at.rule > 16)) {
+        holds(place.record.len == 0 && place.name.len == 0, "a rule about no record has one");
+        return;
+    }
+    if (!holds(elfmap_file(bytes, len, &file) && elfmap_owner(&file, bytes, len, place.record.start, 0, &owner)
+                   && elfmap_place(&file, bytes, len, place.record.start, owner, &found),
+               "a rule is about no record"))
+        return;
+    holds(found.record.start == place.record.start && found.record.len == place.record.len, "a rule is about a part of a record");
+    holds(owner == (is_of_section ? ELFMAP_SECTION_HEADERS : ELFMAP_CONTENTS + place.section), "a rule is about another section");
+    holds(found.entry == (is_of_section ? place.section : place.entry), "a rule is about another entry");
+    if (is_of_symbol)
+        holds(elfmap_table(&file, bytes, len, place.section, &table) && elfmap_symbol(&table, bytes, len, place.entry, &symbol)
+                  && symbol.name.len == place.name.len && (symbol.name.len == 0 || symbol.name.start == place.name.start),
+              "a rule is about another name");
+    if (at.rule == 8)
+        holds(place.first_file == 0 && place.first_index < at.index, "the first definition is not before the second");
+}
+
 static void linked(const uint8_t *bytes, size_t len) {
     struct elfmap_bytes files[] = {{bytes, len}};
     struct elfmap_options options = {0x400000, 0x1000, 1};
@@ -321,6 +342,8 @@ static void linked(const uint8_t *bytes, size_t len) {
           "the verdict on the link is another");
     if (status == ELFMAP_DONE)
         holds(elfmap_verdict(text, outcome.length, &fault), "what is linked is refused");
+    if (status == ELFMAP_NOT_LINKED)
+        place_of_rule(bytes, len, outcome);
     mapped(bytes, len, rules, sizeof rules - 1, status, outcome);
 }
 
@@ -339,7 +362,7 @@ static bool validate(const uint8_t *bytes, size_t len) {
         for (uint64_t i = 0; i < file.sections; i++)
             notes_of(&file, bytes, len, i);
         names(&file, bytes, len);
-        refused_tables(&file, bytes, len);
+        table_verdicts(&file, bytes, len);
         rewritten(bytes, len);
         linked(bytes, len);
     }

@@ -305,6 +305,27 @@ pub struct Options {
     pub uses_rules: u32,
 }
 
+/// What a broken rule of the link is about. A number that has no meaning is 0.
+#[derive(Clone, Copy, Debug, Default, PartialEq, Eq, Hash)]
+#[repr(C)]
+pub struct LinkPlace {
+    /// The index of the section that the rule is about, or of the section that holds the symbol or
+    /// the relocation.
+    pub section: u64,
+    /// The index of the symbol or the relocation in that section; of a section 0.
+    pub entry: u64,
+    /// Where the section header, the symbol or the relocation is in the file; `len` is 0 if there
+    /// is none.
+    pub record: Extent,
+    /// Where the name of the symbol is in the file, or of the symbol that the relocation refers to,
+    /// without its closing zero; `len` is 0 if it has no name.
+    pub name: Extent,
+    /// Of rule 8 the file of the first definition of the name.
+    pub first_file: u64,
+    /// Its position in that file, as `index` of an outcome.
+    pub first_index: u64,
+}
+
 extern "C" {
     pub fn elfmap_version() -> u64;
     pub fn elfmap_verdict(bytes: *const u8, len: usize, fault: &mut Fault) -> bool;
@@ -488,13 +509,6 @@ extern "C" {
         size: usize,
         outcome: &mut Outcome,
     ) -> u32;
-    pub fn elfmap_refused_tables(
-        bytes: *const u8,
-        len: usize,
-        buffer: *mut u8,
-        size: usize,
-        outcome: &mut Outcome,
-    ) -> u32;
     pub fn elfmap_table_verdicts(
         bytes: *const u8,
         len: usize,
@@ -542,5 +556,14 @@ extern "C" {
         rules: *const u8,
         rules_len: usize,
         outcome: &mut Outcome,
+    ) -> u32;
+    pub fn elfmap_link_place(
+        files: *const Bytes,
+        count: usize,
+        rule: u16,
+        file: u64,
+        index: u64,
+        entry: u64,
+        place: &mut LinkPlace,
     ) -> u32;
 }
