@@ -19,15 +19,13 @@ import ctypes
 import mmap
 import operator
 import os
-import pickle
 from collections.abc import Callable, Iterable, Iterator, Sequence
 from typing import TYPE_CHECKING, Any, NamedTuple, Optional, TypeVar, Union
 
-from elfmap import _columns, _declared, _library, _rules
+from elfmap import _columns, _declared, _library, _link_places, _rules
 
 # They are names of this module too. In `__all__` they would make `help` ten times as long.
 from elfmap.constants import (
-    ELFDATA2MSB as _ELFDATA2MSB,
     LONGEST_FILE as _LONGEST_FILE,
     DT as DT,
     EM as EM,
@@ -131,18 +129,29 @@ class NotLinked(ValueError):
 
     `file`, `index` and `entry` count from 0; docs/RULES.md says what for each `rule`.
     `symbol` is the name of the symbol that it is about: that of rules 6 to 9, that of the
-    relocation of rules 12 to 16, and the entry point of rule 10. None if there is none.
+    relocation of rules 12 to 16, and the entry point of rule 10. `offset` is where the section
+    header, the symbol or the relocation is in the file. `first` is the `file` and the `index` of
+    the first definition, of rule 8. Each is None if there is none.
     """
 
     def __init__(
-        self, rule: int, file: int, index: int, entry: int, symbol: Optional[bytes] = None
+        self,
+        rule: int,
+        file: int,
+        index: int,
+        entry: int,
+        symbol: Optional[bytes] = None,
+        offset: Optional[int] = None,
+        first: Optional[tuple[int, int]] = None,
     ) -> None:
-        super().__init__(rule, file, index, entry, symbol)
+        super().__init__(rule, file, index, entry, symbol, offset, first)
         self.rule = rule
         self.file = file
         self.index = index
         self.entry = entry
         self.symbol = symbol
+        self.offset = offset
+        self.first = first
 
     @property
     def name(self) -> str:
@@ -536,12 +545,16 @@ class File:
         numpy.asarray takes one without a copy. A section without such a table has no arrays. The
         fields are those of the records, without names and the `section` of a symbol.
         """
-        table = self._table(section, tuple(_columns.LAYOUTS))
+        table = self._table(section, tuple(_columns.ROWS))
         if not table:
             return {}
-        layout = _columns.LAYOUTS[table.sh_type]
-        content = self._at(table.content.start, table.entries * layout.size)
-        return dict(_columns.columns(layout, content, table.ei_data == _ELFDATA2MSB))
+        rows = _columns.ROWS[table.sh_type]
+        bare = _columns.without_names(table)
+
+        def fill(first: int, buffer: Any, count: int) -> None:
+            self._call(rows.call, first, buffer, count, of=(bare,))
+
+        return _columns.columns(rows, table.entries, fill)
 
     def find(self, section: int, name: _Text) -> Optional[int]:
         """The index of the symbol of this name, by the hash table in a section."""
@@ -562,6 +575,10 @@ class File:
         # The length of a view that was released is an error, before its bytes are read.
         call = getattr(_library.library(), name)
         return bool(call(*of, self._address, len(self._view), *words))
+
+    def _section_headers(self) -> Iterator[tuple[int, ...]]:
+        """The fields of all section headers, without names and contents."""
+        return _library.section_headers(self._numbers, self._address, len(self._view))
 
     def _validate(self) -> None:
         """Raises Refused where a rule is broken."""
@@ -766,10 +783,22 @@ def _view_of(data: _Bytes) -> memoryview:
         raise TypeError(
             "the bytes of a file are wanted, and no path: pass those of Path.read_bytes()"
         )
+    if isinstance(data, (bytes, bytearray)) or _is_plain(data):
+        return memoryview(data).toreadonly()
+    # What is no bytes may be numbers of any kind. Most callers have bytes, and start without it.
+    import pickle
+
     try:
         return pickle.PickleBuffer(data).raw().toreadonly()
     except BufferError:
         raise TypeError("bytes in one piece are wanted") from None
+
+
+def _is_plain(data: object) -> bool:
+    """Whether it is a view of bytes that follow one another."""
+    return (
+        isinstance(data, memoryview) and data.format == "B" and data.c_contiguous and data.ndim == 1
+    )
 
 
 def _bytes_of(data: _Bytes) -> tuple[Any, int]:
@@ -856,8 +885,7 @@ def _failure(
     if status == _declared.REFUSED:
         return Refused(outcome.rule, outcome.at, outcome.file)
     if status == _declared.NOT_LINKED:
-        place = outcome.rule, outcome.file, outcome.index, outcome.at
-        return NotLinked(*place, _symbol_of(*place, contents, entry))
+        return _not_linked(outcome, contents, entry)
     if status == _declared.TOO_LONG:
         return TooLong()
     if status == _declared.BAD_RULES:
@@ -865,18 +893,16 @@ def _failure(
     return MemoryError()
 
 
-def _symbol_of(
-    rule: int, file: int, index: int, entry: int, contents: Sequence[memoryview], start: bytes
-) -> Optional[bytes]:
-    """The name of the symbol that a rule of the link is about; None also if there is no memory for
-    it."""
-    # What it needs is not imported with the package.
-    from elfmap._link_words import NO_ENTRY, refused_symbol
-
-    if rule == NO_ENTRY:
-        return start
-    if file >= len(contents):
-        return None
+def _not_linked(it: _declared.Outcome, contents: Sequence[memoryview], entry: bytes) -> NotLinked:
+    """Why files don't link, and what that is about; without this if there is no memory for it."""
+    site = it.rule, it.file, it.index, it.at
+    if it.rule == _link_places.NO_ENTRY:
+        return NotLinked(*site, entry)
     with contextlib.suppress(MemoryError):
-        return refused_symbol(contents[file], rule, index, entry)
-    return None
+        place = _link_places.link_place(contents, site)
+        if place:
+            symbol = _link_places.symbol_of(contents[it.file], it.rule, place)
+            is_second = it.rule == _link_places.TWO_DEFINITIONS
+            first = (place.first_file, place.first_index) if is_second else None
+            return NotLinked(*site, symbol, place.record.start, first)
+    return NotLinked(*site)

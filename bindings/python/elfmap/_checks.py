@@ -30,16 +30,19 @@ from elfmap._deviations import (
     Rows,
     debug_copy,
 )
-from elfmap._link_words import OF_ONE_FILE, Linked
+from elfmap._link_places import OF_SECTIONS
+from elfmap._link_words import OF_ONE_FILE, field_of
 from elfmap._sources import LONGEST, Room, Source, Unreadable
 from elfmap._words import DYNSYM, SYMTAB, SYMTAB_SHNDX, Words
+from elfmap.constants import SHT
 
-# The types of sections that the rules of tables look into: SYMTAB, STRTAB, RELA, HASH,
-# DYNAMIC, NOTE, REL, DYNSYM, GROUP and SYMTAB_SHNDX. A string table and an index table have
+# The types of sections that the rules of tables look into. A string table and an index table have
 # no lines of their own.
-_TABLE_TYPES = {2, 3, 4, 5, 6, 7, 9, 11, 17, 18}
-_SHOWN_TYPES = _TABLE_TYPES - {3, 18}
-_PROGBITS = 1
+_SHOWN_TYPES = {
+    *(SHT.SYMTAB, SHT.RELA, SHT.HASH, SHT.DYNAMIC, SHT.NOTE, SHT.REL, SHT.DYNSYM, SHT.GROUP),
+}
+_TABLE_TYPES = _SHOWN_TYPES | {SHT.STRTAB, SHT.SYMTAB_SHNDX}
+_PROGBITS = SHT.PROGBITS.value
 # Tables of so many bytes are checked at once; a larger one by itself.
 _MOST_AT_ONCE = 1 << 24
 # How much room there is for each file. What is above the most is given back after one.
@@ -51,14 +54,15 @@ TOO_LONG_AS_OBJECT = 0
 
 
 class Fault(NamedTuple):
-    """A rule broken at an offset: of the table in a section, or of the file; or a rule of the
-    link."""
+    """A rule broken at an offset: of the table in a section, or of the file; or a rule of the link,
+    with the index of its own section or symbol."""
 
     rule: int
     at: int
     table: Optional[int] = None
     is_of_link: bool = False
     reading: Optional[Reading] = None
+    own: int = 0
 
 
 class Table(NamedTuple):
@@ -171,7 +175,7 @@ class Checks:
         self._is_changed |= judged is not source
         size = len(source)
         self._read_batch(source, size, whole)
-        fault = self._object_fault(size) or self._link_fault(source, size)
+        fault = self._object_fault(size) or self._link_fault(size)
         if fault and fault not in (it._replace(table=None, reading=None) for it in found):
             found.append(fault)
         return found
@@ -226,12 +230,8 @@ class Checks:
 
     def _sections(self, size: int) -> list[Table]:
         """The section headers that the rules of tables look at."""
-        file = self._file(size)
-        if not file.e_shoff:
-            return []
-        record = struct.Struct(f"{_order(file)}4xI16x2QI20x")
-        table = self._room.view[file.e_shoff : file.e_shoff + 64 * file.sections]
-        return [Table(index, *fields) for index, fields in enumerate(record.iter_unpack(table))]
+        rows = _library.section_headers(self._file(size), self._room.address, size)
+        return [Table(index, it[1], *it[4:7]) for index, it in enumerate(rows)]
 
     def _file(self, size: int) -> _declared.File:
         file = _declared.File()
@@ -344,7 +344,7 @@ class Checks:
             raise Unreadable("there is no memory for its tables")
         return None
 
-    def _link_fault(self, source: Source, size: int) -> Optional[Fault]:
+    def _link_fault(self, size: int) -> Optional[Fault]:
         """Which rule of the link the object breaks by itself, by the verdict of `elfmap link`.
 
         The rules before these are kept by any one file with these options. Those after
@@ -359,8 +359,13 @@ class Checks:
             raise Unreadable("there is no memory for its tables")
         if status != _declared.NOT_LINKED or outcome.rule not in OF_ONE_FILE:
             return None
-        at = Linked("", Words(source)).offset(outcome.rule, outcome.index)
-        return Fault(outcome.rule, at, is_of_link=True)
+        place = _declared.LinkPlace()
+        site = outcome.rule, 0, outcome.index, outcome.at
+        if self._library.elfmap_link_place(file, 1, *site, place) == _declared.NO_MEMORY:
+            raise Unreadable("there is no memory for its tables")
+        at = place.record.start + field_of(outcome.rule)
+        own = place.section if outcome.rule in OF_SECTIONS else place.entry
+        return Fault(outcome.rule, at, is_of_link=True, own=own)
 
 
 def _order(file: _declared.File) -> str:

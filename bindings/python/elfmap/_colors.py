@@ -4,10 +4,12 @@ from __future__ import annotations
 
 import os
 from collections.abc import Iterator
+from typing import TYPE_CHECKING
 
-from elfmap._findings import Report
-from elfmap._formats import sentence, summary_words
 from elfmap._words import one_line
+
+if TYPE_CHECKING:
+    from elfmap._findings import Report
 
 CHOICES = ("auto", "always", "never")
 _BOLD = "\x1b[1m"
@@ -27,6 +29,9 @@ def are_wanted(choice: str) -> bool:
 
 def text(report: Report) -> Iterator[bytes]:
     """The report as text, with the path and the rule of each finding in colours."""
+    # elfmap-view has colours, and no report.
+    from elfmap._formats import sentence, summary_words
+
     for it in report.findings:
         words = sentence(it).replace(it.name, f"{_RED}{it.name}{_PLAIN}", 1)
         line = f"{_BOLD}{os.fsdecode(one_line(it.path))}{_PLAIN}: {words}\n"

@@ -1,70 +1,81 @@
-"""The numbers of a whole table, field by field: no entry takes a call of its own.
-
-The layouts are those of the gABI, chapter 4, for files of 64 bits.
-"""
+"""The numbers of a whole table, field by field: no entry takes a call of its own."""
 
 import array
-import sys
-from collections.abc import Iterator
-from typing import TYPE_CHECKING, NamedTuple
+import ctypes
+from collections.abc import Callable
+from typing import TYPE_CHECKING, Any, NamedTuple
+
+from elfmap import _declared
+from elfmap.constants import SHT
 
 if TYPE_CHECKING:
     Column = array.array[int]
 else:
     Column = array.array
 
-
-class Field(NamedTuple):
-    """A field of an entry: its name, its type as a letter of the module array, and where it
-    begins."""
-
-    name: str
-    kind: str
-    at: int
-
-
-class Layout(NamedTuple):
-    """The entries of a table: how many bytes one has, its fields, the halves of its r_info, and
-    what it has not, which is 0."""
-
-    size: int
-    fields: tuple[Field, ...]
-    halves: tuple[Field, ...] = ()
-    zeros: tuple[str, ...] = ()
+# So many entries are read by one call.
+_AT_ONCE = 1 << 14
+# The types of fields, as letters of the module array.
+_LETTERS: dict[object, str] = {
+    ctypes.c_uint8: "B",
+    ctypes.c_uint16: "H",
+    ctypes.c_uint32: "I",
+    ctypes.c_uint64: "Q",
+    ctypes.c_int64: "q",
+}
 
 
-_INFO = (Field("symbol", "I", 12), Field("relocation_type", "I", 8))
-_SYMBOL = Layout(
-    24,
-    (
-        Field("st_name", "I", 0),
-        Field("st_info", "B", 4),
-        Field("st_other", "B", 5),
-        Field("st_shndx", "H", 6),
-        Field("st_value", "Q", 8),
-        Field("st_size", "Q", 16),
-    ),
+class Rows(NamedTuple):
+    """How the entries of a table are read: the call, what it makes of an entry, and the fields of
+    that which are columns."""
+
+    call: str
+    record: type[ctypes.Structure]
+    fields: tuple[str, ...]
+
+
+_SYMBOLS = Rows(
+    "elfmap_symbols",
+    _declared.Symbol,
+    ("st_name", "st_info", "st_other", "st_shndx", "st_value", "st_size"),
 )
-_RELA = Layout(24, (Field("r_offset", "Q", 0), Field("r_addend", "q", 16)), _INFO)
-_REL = Layout(16, (Field("r_offset", "Q", 0),), _INFO, ("r_addend",))
-_DYNAMIC = Layout(16, (Field("d_tag", "q", 0), Field("d_un", "Q", 8)))
+_RELOCATIONS = Rows(
+    "elfmap_relocations",
+    _declared.Relocation,
+    ("r_offset", "r_addend", "symbol", "relocation_type"),
+)
 # By the type of the section.
-LAYOUTS = {2: _SYMBOL, 4: _RELA, 6: _DYNAMIC, 9: _REL, 11: _SYMBOL}
+ROWS = {
+    SHT.SYMTAB.value: _SYMBOLS,
+    SHT.DYNSYM.value: _SYMBOLS,
+    SHT.RELA.value: _RELOCATIONS,
+    SHT.REL.value: _RELOCATIONS,
+    SHT.DYNAMIC.value: Rows("elfmap_dynamics", _declared.Dynamic, ("d_tag", "d_un")),
+}
 
 
-def columns(layout: Layout, content: memoryview, is_big: bool) -> Iterator[tuple[str, Column]]:
-    """Each field by its name, and its numbers in all entries of the content."""
-    for it in (*layout.fields, *(_half(it, is_big) for it in layout.halves)):
-        width = array.array(it.kind).itemsize
-        column = array.array(it.kind)
-        column.frombytes(content.cast(it.kind)[it.at // width :: layout.size // width].tobytes())
-        if is_big != (sys.byteorder == "big"):
-            column.byteswap()
-        yield it.name, column
-    for name in layout.zeros:
-        yield name, array.array("q", bytes(8 * (len(content) // layout.size)))
+def columns(rows: Rows, count: int, fill: Callable[[int, Any, int], object]) -> dict[str, Column]:
+    """Each field by its name, and its numbers in so many entries: `fill` reads those from an index
+    on into a buffer, and is told how many."""
+    types = {name: kind for name, kind, *_ in rows.record._fields_}
+    found = {name: array.array(_LETTERS[types[name]]) for name in rows.fields}
+    size = ctypes.sizeof(rows.record)
+    buffer = (rows.record * min(count, _AT_ONCE))()
+    for first in range(0, count, _AT_ONCE):
+        some = min(count - first, _AT_ONCE)
+        fill(first, buffer, some)
+        view = memoryview(bytes(buffer))[: some * size]
+        for name, column in found.items():
+            at = getattr(rows.record, name).offset
+            width = column.itemsize
+            column.frombytes(view.cast(column.typecode)[at // width :: size // width].tobytes())
+    return found
 
 
-def _half(field: Field, is_big: bool) -> Field:
-    """A half of r_info, whose upper half comes first in the order big."""
-    return field._replace(at=20 - field.at) if is_big else field
+def without_names(table: _declared.Table) -> _declared.Table:
+    """A copy of a table whose symbols have no names, which take time; and each of them has a word,
+    because none is looked at, and one without a word would end the entries."""
+    bare = _declared.Table.from_buffer_copy(table)
+    bare.strings.len = 0
+    bare.linked = table.content
+    return bare

@@ -4,6 +4,7 @@ end."""
 from __future__ import annotations
 
 import argparse
+import itertools
 import os
 import re
 import signal
@@ -16,11 +17,17 @@ from elfmap._sources import reason_of
 from elfmap._words import one_line, visible
 
 DONE, FOUND, USAGE, UNREADABLE = range(4)
+# Of a terminal that does not say how wide it is.
+_COLUMNS = 80
 
 
 class Parser(argparse.ArgumentParser):
     """Reads the words of a command. A usage error has its status also where standard error is
     closed."""
+
+    def __init__(self, **words: Any) -> None:
+        # Without a width the formatter imports what tells it, before it has anything to write.
+        super().__init__(formatter_class=_formatter, **words)
 
     def error(self, message: str) -> NoReturn:
         _write(self.format_usage().encode("utf-8", "backslashreplace"))
@@ -40,9 +47,33 @@ class Parser(argparse.ArgumentParser):
         names the others."""
         every = list(sys.argv[1:] if words is None else words)
         end = every.index("--") if "--" in every else len(every)
-        found = self.parse_intermixed_args(every[:end])
+        front = every[:end]
+        # Where options come first nothing is mixed. The other call takes a millisecond more: it
+        # writes the usage.
+        rest = itertools.dropwhile(_is_option, front)
+        is_mixed = any(map(_is_option, rest))
+        found = self.parse_intermixed_args(front) if is_mixed else self.parse_args(front)
         setattr(found, operands, [*getattr(found, operands), *every[end + 1 :]])
         return found
+
+
+def terminal_width() -> int:
+    """How many columns COLUMNS says that there are, or else the terminal of standard output."""
+    columns = os.environ.get("COLUMNS", "")
+    if columns.isdecimal() and int(columns):
+        return int(columns)
+    try:
+        return os.get_terminal_size(1).columns or _COLUMNS
+    except OSError:
+        return _COLUMNS
+
+
+def _formatter(prog: str) -> argparse.HelpFormatter:
+    return argparse.HelpFormatter(prog, width=terminal_width() - 2)
+
+
+def _is_option(word: str) -> bool:
+    return word.startswith("-") and word != "-"
 
 
 def complain(program: str, words: bytes) -> None:

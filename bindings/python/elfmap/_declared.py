@@ -213,6 +213,19 @@ class Options(Structure):
     _fields_ = [("base", c_uint64), ("page", c_uint64), ("uses_rules", c_uint32)]
 
 
+class LinkPlace(Structure):
+    """What a broken rule of the link is about. A number that has no meaning is 0."""
+
+    _fields_ = [
+        ("section", c_uint64),
+        ("entry", c_uint64),
+        ("record", Extent),
+        ("name", Extent),
+        ("first_file", c_uint64),
+        ("first_index", c_uint64),
+    ]
+
+
 # Of each call the type of its result, and after it those of its parameters.
 CALLS: dict[str, list[Any]] = {
     "elfmap_version": [c_uint64],
@@ -314,7 +327,6 @@ CALLS: dict[str, list[Any]] = {
         POINTER(c_uint32),
     ],
     "elfmap_show": [c_uint32, c_void_p, c_size_t, c_void_p, c_size_t, POINTER(Outcome)],
-    "elfmap_refused_tables": [c_uint32, c_void_p, c_size_t, c_void_p, c_size_t, POINTER(Outcome)],
     "elfmap_table_verdicts": [
         c_uint32,
         c_void_p,
@@ -360,5 +372,15 @@ CALLS: dict[str, list[Any]] = {
         c_void_p,
         c_size_t,
         POINTER(Outcome),
+    ],
+    "elfmap_link_place": [
+        c_uint32,
+        POINTER(Bytes),
+        c_size_t,
+        c_uint16,
+        c_uint64,
+        c_uint64,
+        c_uint64,
+        POINTER(LinkPlace),
     ],
 }

@@ -34,6 +34,7 @@ from elfmap._words import (
     Words,
     explain,
 )
+from elfmap.constants import EM, SHF, STB
 
 SEGMENT_PAST_END = 25
 _WRONG_ENTRY_SIZE = 42
@@ -42,15 +43,15 @@ _WRONG_RELOCATION_SYMBOL = 54
 _OF_NOTES = (59, 60, 61, 62)
 _SYMBOL_OFF_CHAIN = 69
 _EXECUTABLES = (2, 3)
-_MIPS = 8
+_MIPS = EM.MIPS.value
 _S390 = 22
 _SPARC_V9 = 43
 _ALPHA = 0x9026
-_LOCAL = 0
+_LOCAL = STB.LOCAL.value
 # STT_SPARC_REGISTER: a symbol for a global register, which no chain needs.
 _SPARC_REGISTER = 13
-_ALLOC = 2
-_EXECINSTR = 4
+_ALLOC = SHF.ALLOC.value
+_EXECINSTR = SHF.EXECINSTR.value
 # Where the bytes of `r_info` are in a little-endian file for MIPS: in the order of the generic ABI
 # the type, its further types, the special symbol, and then the symbol.
 _MIPS_ORDER = (7, 6, 5, 4, 0, 1, 2, 3)

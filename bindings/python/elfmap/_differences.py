@@ -6,41 +6,35 @@ object exactly where these bytes are the same.
 
 from __future__ import annotations
 
-import struct
 from collections import Counter
 from collections.abc import Callable, Hashable, Iterable, Iterator, Sequence
 from itertools import zip_longest
 from typing import NamedTuple, Optional, TypeVar, Union
 
 from elfmap import File, Relocation, Section, Symbol, _Bytes as Bytes
-from elfmap._elf_file import is_big_endian, order_of
-from elfmap._names import machine_words, relocation_types, section_type
+from elfmap._names import (
+    RESERVED_SECTIONS,
+    SYMBOL_BINDINGS,
+    SYMBOL_TYPES,
+    machine_words,
+    relocation_types,
+    section_type,
+)
 from elfmap._strings_in import strings_at
 from elfmap._words import LONGEST_LETTER, MOST_LETTERS, printable
+from elfmap.constants import SHF, SHN, SHT, STT
 
-_NULL = 0
-_SYMTAB = 2
-_RELA = 4
-_NOBITS = 8
-_REL = 9
-_GROUP = 17
-_SYMTAB_SHNDX = 18
-_ALLOC = 2
-_INFO_LINK = 0x40
-_IN_INDEX_TABLE = 0xFFFF
-_STT_SECTION = 3
-_PLACES = {0: "undefined", 0xFFF1: "absolute", 0xFFF2: "common"}
-_BINDINGS = {0: "LOCAL", 1: "GLOBAL", 2: "WEAK"}
-_TYPES = {
-    0: "NOTYPE",
-    1: "OBJECT",
-    2: "FUNC",
-    3: "SECTION",
-    4: "FILE",
-    5: "COMMON",
-    6: "TLS",
-    10: "GNU_IFUNC",
-}
+_NULL = SHT.NULL.value
+_SYMTAB = SHT.SYMTAB.value
+_RELA = SHT.RELA.value
+_NOBITS = SHT.NOBITS.value
+_REL = SHT.REL.value
+_GROUP = SHT.GROUP.value
+_SYMTAB_SHNDX = SHT.SYMTAB_SHNDX.value
+_ALLOC = SHF.ALLOC.value
+_INFO_LINK = SHF.INFO_LINK.value
+_IN_INDEX_TABLE = SHN.XINDEX.value
+_STT_SECTION = STT.SECTION.value
 _STEP = 1 << 16
 # A longer name is not copied, and is compared by blocks of so many bytes.
 _BLOCK = 256
@@ -165,7 +159,7 @@ def label_words(label: Label) -> str:
 
 def place_words(place: Place) -> str:
     if isinstance(place, int):
-        return _PLACES.get(place, hex(place))
+        return RESERVED_SECTIONS.get(place, hex(place))
     return label_words(place) if place else "none"
 
 
@@ -180,19 +174,15 @@ def labelled(names: Iterable[Name]) -> list[Label]:
 
 def sections_of(file: File, data: Bytes, names: Names) -> tuple[list[Section], list[Text]]:
     """All sections at once, without their names, and the names: the file is sound."""
-    header = file.header
     view = memoryview(data)
-    order = order_of(is_big_endian(header.e_ident))
-    table = view[header.e_shoff : header.e_shoff + 64 * len(file.sections)]
-    rows = struct.iter_unpack(f"{order}2I4Q2I2Q", table) if header.e_shoff else iter(())
     found = []
-    for row in rows:
+    for row in file._section_headers():
         kind = row[1]
         start = row[4]
         size = row[5]
         content = None if kind in (_NULL, _NOBITS) else view[start : start + size]
         found.append(Section._make([*row, b"", content]))
-    own = _names_of_sections(header.e_shstrndx, found)
+    own = _names_of_sections(file.header.e_shstrndx, found)
     strings = bytes(found[own].content or b"") if own else b""
     at = names.of(strings, (it.sh_name for it in found))
     # In an entry of no section sh_name may be any number.
@@ -472,11 +462,11 @@ class Comparison:
 
 
 def binding_words(it: Symbol) -> str:
-    return _BINDINGS.get(it.binding, str(it.binding))
+    return SYMBOL_BINDINGS.get(it.binding, str(it.binding))
 
 
 def type_words(it: Symbol) -> str:
-    return _TYPES.get(it.symbol_type, str(it.symbol_type))
+    return SYMBOL_TYPES.get(it.symbol_type, str(it.symbol_type))
 
 
 def only_in(

@@ -11,6 +11,7 @@ from typing import Optional
 from elfmap._deviations import SEGMENT_PAST_END, is_debug_file
 from elfmap._names import section_type
 from elfmap._words import SECTION, SHARED_BYTE, Words, visible
+from elfmap.constants import ET
 
 TOO_SHORT = 2
 WRONG_MAGIC = 3
@@ -39,11 +40,11 @@ _MAGICS = {
     b"\xfd7zXZ": "it is compressed by xz: decompress it first",
     b"\x28\xb5\x2f\xfd": "it is compressed by zstd: decompress it first",
 }
-_FILE_TYPES = {
-    0: "of no type",
-    2: "an executable",
-    3: "a shared object or a position-independent executable",
-    4: "a core file",
+_FILES: dict[int, str] = {
+    ET.NONE: "of no type",
+    ET.EXEC: "an executable",
+    ET.DYN: "a shared object or a position-independent executable",
+    ET.CORE: "a core file",
 }
 _HEADER_SIZE = 64
 # The first letters of a section's name that show who made a file that breaks a rule, and why it
@@ -74,7 +75,7 @@ def hints(
     elif rule in _OF_SECTION_TABLE:
         yield from _astray(words)
     elif rule == NOT_RELOCATABLE:
-        kind = _FILE_TYPES.get(words.number(16, 2), "of another type")
+        kind = _FILES.get(words.number(16, 2), "of another type")
         yield f"the file is {kind}: an object is what cc -c writes"
     elif rule in (_KEPT_LINK, _KEPT_INFO):
         yield from _address_significance(words, path, at)

@@ -123,7 +123,7 @@ def _finding(content: Content, words: Words, origin: Origin, fault: Fault, depth
         limit = OBJECT_TOO_LONG
         return Finding(path, 0, rule, limit.name, limit.message, (), file, start, origin)
     if fault.is_of_link:
-        told = explain_alone(Linked("", words), fault.rule, fault.at)
+        told = explain_alone(Linked("", words), fault.rule, fault.own)
     elif fault.reading:
         told = fault.reading.told(words, fault.rule, fault.table, depth.most_letters)
     else:

@@ -12,6 +12,7 @@ from elfmap._link_words import EMPTY_SIGNATURE, UNDEFINED_NAME, Linked
 from elfmap._linker_names import linker_name
 from elfmap._names import machine_words, relocation_types
 from elfmap._rule_files import changes_no_bytes, file_with, files_for
+from elfmap.constants import SHF, STT
 
 # Rules of the link by their numbers.
 _TLS = 3
@@ -31,10 +32,10 @@ DIVIDED_SECTION = 8
 GAP_IN_CODE = 9
 VERSIONED_NAME = 10
 # Types and a binding of symbols, and the flag of a section in a group.
-_OF_SECTION = 3
-_OF_THREAD = 6
+_OF_SECTION = STT.SECTION.value
+_OF_THREAD = STT.TLS.value
 _GNU_UNIQUE = 10
-_IN_GROUP = 0x200
+_IN_GROUP = SHF.GROUP.value
 _LITTLE_MIPS = (8, "<")
 _SYMBOLS_AT_ONCE = 1 << 12
 _LTO_SECTION = b".gnu.lto_"

@@ -3,13 +3,14 @@
 
 from __future__ import annotations
 
-import struct
 from collections.abc import Iterable, Iterator, Sequence
 from typing import NamedTuple, Optional, TypeVar
 
 import elfmap
-from elfmap._elf_file import ABSOLUTE, is_big_endian, order_of
+from elfmap._elf_file import ABSOLUTE, is_big_endian
+from elfmap._link_words import Linked
 from elfmap._map_lines import LinkMap, Place
+from elfmap._words import Words
 from elfmap.constants import GRP_COMDAT, SHN, SHT, STB
 
 # A link map may have each name as hexadecimal digits, and is in memory several times.
@@ -52,36 +53,22 @@ class Object:
         self.machine = header.e_machine
         self.flags = header.e_flags
         self.sections = list(names.counted(self.file.sections))
-        self.table = self._first(SHT.SYMTAB)
+        linked = Linked("", Words(data))
+        self.table = linked.symbols
         self.symbols = list(names.counted(self.file.symbols(self.table)))
-        self.kept = self._kept(header.e_shstrndx)
+        self.kept = linked.kept
         self.positions = {index: position for position, index in enumerate(self.kept)}
         self.relocating: dict[int, list[int]] = {}
         for index in self.kept:
             if self.sections[index].sh_type in (SHT.RELA, SHT.REL):
                 self.relocating.setdefault(self.sections[index].sh_info, []).append(index)
 
-    def _first(self, kind: int) -> int:
-        """The first section of a type, 0 if there is none."""
-        types = (it.sh_type for it in self.sections)
-        return next((index for index, it in enumerate(types) if it == kind), 0)
-
-    def _kept(self, names: int) -> list[int]:
-        if names == SHN.XINDEX:
-            names = self.sections[0].sh_link
-        strings = self.sections[self.table].sh_link if self.table else 0
-        others = {0, names, self.table, strings, self._first(SHT.SYMTAB_SHNDX)}
-        kinds = [it.sh_type for it in self.sections]
-        return [at for at, it in enumerate(kinds) if it != SHT.NULL and at not in others]
-
     def groups(self) -> Iterator[tuple[bytes, tuple[int, ...]]]:
         """The COMDAT groups: of each its signature, and the indexes of its sections."""
-        for section in self.sections:
-            if section.sh_type == SHT.GROUP and section.content:
-                count = section.sh_size // 4
-                words = struct.unpack(f"{order_of(self.is_big)}{count}I", section.content)
-                if words[0] == GRP_COMDAT:
-                    yield self.symbols[section.sh_info].name, words[1:]
+        for index, section in enumerate(self.sections):
+            words = self.file.words(index) if section.sh_type == SHT.GROUP else ()
+            if words and words[0] == GRP_COMDAT:
+                yield self.symbols[section.sh_info].name, tuple(words[1:])
 
 
 class Site(NamedTuple):

@@ -44,12 +44,13 @@ from elfmap._words import (
     entry_words,
     printable,
 )
+from elfmap.constants import SHF, STB
 
 _GNU_IFUNC = 10
 # The values of EI_OSABI whose types of symbols are those of GNU: none, GNU and FreeBSD.
 _LIKE_GNU = (0, 3, 9)
-_LOCAL = 0
-_EXECINSTR = 4
+_LOCAL = STB.LOCAL.value
+_EXECINSTR = SHF.EXECINSTR.value
 _STACK = b".note.GNU-stack"
 _INIT = b".init_array"
 _FINI = b".fini_array"

@@ -8,20 +8,26 @@ instead, and is of a rule that needs no other file.
 from __future__ import annotations
 
 import os
-import struct
 from collections.abc import Iterator, Sequence
 from functools import cached_property
-from itertools import islice
 from typing import Optional
 
+from elfmap import _declared
+from elfmap._link_places import (
+    NO_ENTRY,
+    OF_RELOCATIONS,
+    OF_SECTIONS,
+    OF_SYMBOLS,
+    TWO_DEFINITIONS,
+    link_place,
+    record_at,
+)
 from elfmap._names import machine_words
 from elfmap._rules import LINK_RULES
+from elfmap._sources import LONGEST
 from elfmap._words import (
-    ENTRY_SIZES,
     LONGEST_NAME,
     NULL,
-    REL,
-    RELA,
     SECTION,
     SYMTAB,
     Limit,
@@ -32,27 +38,14 @@ from elfmap._words import (
     reason,
 )
 
-_GLOBAL = 1
-_UNDEFINED = 0
-_COMMON = 0xFFF2
-_HEADER_SIZE = 64
-_SYMBOL_SIZE = 24
-_SYMBOLS_AT_ONCE = 1 << 14
 _BYTES_AT_ONCE = 1 << 20
-# A name is looked for at so many places of the string table.
-_MOST_OFFSETS = 1 << 20
 # Rules by their numbers.
 MISMATCH = 2
 EMPTY_SIGNATURE = 5
 _BAD_COMMON = 7
-_TWO_DEFINITIONS = 8
 UNDEFINED_NAME = 9
-NO_ENTRY = 10
 # The rules by what their positions are of.
 OF_OPTIONS = (1, NO_ENTRY, 11)
-OF_SECTIONS = (3, 4, EMPTY_SIGNATURE)
-OF_SYMBOLS = range(6, 10)
-_OF_RELOCATIONS = range(12, 17)
 # The rules that a file keeps or breaks whatever the options and the other files are.
 OF_ONE_FILE = range(3, 8)
 # What is said of a program that is too long: no rule has a number for it.
@@ -90,36 +83,29 @@ class Linked:
         """The index of the section at a position; the count where there is none."""
         return self.kept[position] if position < len(self.kept) else self.words.count
 
-    def _place(self, rule: int) -> tuple[int, int, int]:
-        """Of the section headers or symbols that a rule is about where they begin, their size, and
-        how many there are."""
-        words = self.words
-        if rule in OF_SECTIONS:
-            return words.table, _HEADER_SIZE, words.count
-        start, end = words.content(self.symbols)
-        return start, _SYMBOL_SIZE, (end - start) // _SYMBOL_SIZE
+    @cached_property
+    def content(self) -> memoryview:
+        """All its bytes; none of a file that is too long to be an object."""
+        data = self.words.data
+        return memoryview(data[: len(data)] if len(data) <= LONGEST else b"")
 
-    def offset(self, rule: int, position: int) -> int:
-        """Where in the file a rule is broken: the field of the section header, or the entry of the
-        symbol."""
-        start, size, _ = self._place(rule)
-        if rule in OF_SECTIONS:
-            field, _ = SECTION["sh_info" if rule == EMPTY_SIGNATURE else "sh_flags"]
-            return start + size * self.section(position) + field
-        return start + size * (position + 1)
+    def found(self, rule: int, index: int, entry: int = 0) -> Optional[_declared.LinkPlace]:
+        """The section, the symbol or the relocation that a rule is about, by its position."""
+        return link_place([self.content], (rule, 0, index, entry))
+
+    def place(self, rule: int, index: int, entry: int) -> int:
+        """Where in the file a rule of a section, a symbol or a relocation is broken: the field of
+        the section header, or the entry; -1 if that is not there."""
+        found = self.found(rule, index, entry)
+        return int(found.record.start) + field_of(rule) if found else -1
 
     def index_at(self, rule: int, at: int) -> int:
         """The index of the section or symbol at such an offset; the count where there is none."""
-        start, size, count = self._place(rule)
-        index = (at - start) // size
-        return index if 0 <= index < count else count
-
-    def place(self, rule: int, index: int, entry: int) -> int:
-        """Where in the file a rule of a section, a symbol or a relocation is broken; -1 if that is
-        not there."""
-        if rule in _OF_RELOCATIONS:
-            return self.relocation(index, entry)
-        return self.offset(rule, index)
+        owner, index = record_at(self.content, at) or (-1, 0)
+        if rule in OF_SECTIONS:
+            return index if owner == _declared.SECTION_HEADERS else self.words.count
+        start, end = self.words.content(self.symbols)
+        return index if owner == _declared.CONTENTS + self.symbols else end - start
 
     def position_at(self, rule: int, at: int) -> tuple[int, int]:
         """The position of the section or symbol at such an offset, or of the section of relocations
@@ -127,36 +113,16 @@ class Linked:
         if rule in OF_SECTIONS:
             index = self.index_at(rule, at)
             return self.kept.index(index) if index in self.kept else len(self.kept), 0
-        if rule not in _OF_RELOCATIONS:
+        if rule not in OF_RELOCATIONS:
             return self.index_at(rule, at) - 1, 0
-        for position, index in enumerate(self.kept):
-            start, end = self.words.content(index)
-            kind = self.words.section(index, "sh_type")
-            if kind in (REL, RELA) and start <= at < end:
-                return position, (at - start) // ENTRY_SIZES[kind]
-        return len(self.kept), 0
+        owner, entry = record_at(self.content, at) or (-1, 0)
+        section = owner - _declared.CONTENTS
+        return (self.kept.index(section), entry) if section in self.kept else (len(self.kept), 0)
 
     def raw_name(self, position: int, most: int = LONGEST_NAME) -> bytes:
         """The name of the symbol at a position, or so many bytes of it."""
         offset = self.words.symbol(self.symbols, position + 1, "st_name")
         return self.words.name(self._strings, offset, most)
-
-    def whole_name(self, position: int) -> bytes:
-        """The name of the symbol at a position. Of its string table little more is read."""
-        most = LONGEST_NAME
-        name = self.raw_name(position, most)
-        while len(name) == most:
-            most *= 16
-            name = self.raw_name(position, most)
-        return name
-
-    def first_definition(self, name: bytes) -> Optional[int]:
-        """The first symbol that is a global definition of a name."""
-        offsets = set(islice(self._offsets_of(name), _MOST_OFFSETS)) if name else set()
-        for index, offset in self._global_definitions():
-            if offset in offsets:
-                return index
-        return None
 
     @cached_property
     def _strings(self) -> int:
@@ -170,10 +136,6 @@ class Linked:
         found = next(self._places_of(b"\0%s@@%s" % (base, ending)), None)
         return "" if found is None else self.words.string(self._strings, found + 1)
 
-    def _offsets_of(self, name: bytes) -> Iterator[int]:
-        """Where a name is in the string table: it may be the end of another one."""
-        return self._places_of(name + b"\0")
-
     def _places_of(self, wanted: bytes) -> Iterator[int]:
         """Where bytes are in the string table."""
         start, end = self.words.content(self._strings)
@@ -183,20 +145,6 @@ class Linked:
             while found >= 0:
                 yield at - start + found
                 found = block.find(wanted, found + 1)
-
-    def _global_definitions(self) -> Iterator[tuple[int, int]]:
-        """Their indexes, and the offsets of their names."""
-        words = self.words
-        record = struct.Struct(f"{self.words.order}IBxH16x")
-        start, end = words.content(self.symbols)
-        step = _SYMBOL_SIZE * _SYMBOLS_AT_ONCE
-        for at in range(start, min(end, len(words.data)), step):
-            block = words.data[at : min(at + step, end)]
-            whole = block[: len(block) // _SYMBOL_SIZE * _SYMBOL_SIZE]
-            first = (at - start) // _SYMBOL_SIZE
-            for index, (name, info, section) in enumerate(record.iter_unpack(whole), first):
-                if index and info >> 4 == _GLOBAL and section not in (_UNDEFINED, _COMMON):
-                    yield index, name
 
     # ---- in words
 
@@ -236,10 +184,7 @@ class Linked:
 
     def relocation(self, position: int, entry: int) -> int:
         """Where an entry of a section of relocations is; -1 where it isn't."""
-        index = self.section(position)
-        size = 24 if self.words.section(index, "sh_type") == RELA else 16
-        start, end = self.words.content(index)
-        return start + size * entry if start + size * (entry + 1) <= end else -1
+        return self.place(OF_RELOCATIONS[0], position, entry)
 
     def relocation_words(self, position: int, entry: int) -> str:
         index = self.section(position)
@@ -250,34 +195,15 @@ class Linked:
         return f"{self.path}, {self.words.section_words(index)}: {own}"
 
 
-class _Viewed:
-    """The bytes of a view, of which those alone are copied that are asked for."""
-
-    def __init__(self, view: memoryview) -> None:
-        self._view = view
-
-    def __len__(self) -> int:
-        return len(self._view)
-
-    def __getitem__(self, place: slice) -> bytes:
-        return bytes(self._view[place])
+def field_of(rule: int) -> int:
+    """Where in a section header the field is that a rule looks at; 0 of another rule."""
+    if rule not in OF_SECTIONS:
+        return 0
+    return SECTION["sh_info" if rule == EMPTY_SIGNATURE else "sh_flags"][0]
 
 
-def refused_symbol(data: memoryview, rule: int, index: int, entry: int) -> Optional[bytes]:
-    """The whole name of the symbol of a file that a rule of the link is about; None if there is
-    none."""
-    file = Linked("", Words(_Viewed(data)))
-    if rule in OF_SYMBOLS:
-        return file.whole_name(index)
-    at = file.relocation(index, entry) if rule in _OF_RELOCATIONS else -1
-    symbol = file.words.number(at + 8, 8) >> 32 if at >= 0 else 0
-    return file.whole_name(symbol - 1) if symbol else None
-
-
-def explain_alone(file: Linked, rule: int, at: int) -> Told:
-    """Why a file breaks a rule of the link by itself, at an offset of it."""
-    words = file.words
-    index = file.index_at(rule, at)
+def explain_alone(file: Linked, rule: int, index: int) -> Told:
+    """Why a file breaks a rule of the link by itself, by the index of its section or symbol."""
     section = index if rule in OF_SECTIONS else file.symbols
     message = f"{file.own_words(rule, index)}; {reason(rule, LINK_RULES)}; {LINK_RULES[rule][2]}"
     return Told(message, [section])
@@ -293,7 +219,7 @@ def link_words(files: Sequence[Linked], rule: int, file: int, index: int, entry:
     if rule in OF_ONE_FILE:
         own = it.section(index) if rule in OF_SECTIONS else index + 1
         return f"{it.path}, {it.own_words(rule, own)}"
-    if rule == _TWO_DEFINITIONS:
+    if rule == TWO_DEFINITIONS:
         return _two_definitions(files, file, index)
     if rule == UNDEFINED_NAME:
         return it.undefined_words(index)
@@ -303,13 +229,10 @@ def link_words(files: Sequence[Linked], rule: int, file: int, index: int, entry:
 def _two_definitions(files: Sequence[Linked], file: int, index: int) -> str:
     """Both definitions of a name, of which the given one is the second."""
     own = files[file]
-    name = own.raw_name(index)
-    symbol = index + 1
+    found = link_place([it.content for it in files], (TWO_DEFINITIONS, file, index, 0))
+    first = (found.first_file, found.first_index) if found else (file, index)
     before = "an earlier file has it"
-    for position, it in enumerate(files[: file + 1]):
-        other = it.first_definition(name)
-        if other is not None and (position, other) < (file, symbol):
-            before = f"{it.path} has it at symbol {other}"
-            break
-    second = f"the second one at symbol {symbol} of {own.path}"
+    if first < (file, index) and files[first[0]].raw_name(first[1]) == own.raw_name(index):
+        before = f"{files[first[0]].path} has it at symbol {first[1] + 1}"
+    second = f"the second one at symbol {index + 1} of {own.path}"
     return f"two definitions of {own.symbol_name(index)}, {second}; {before}"

@@ -17,11 +17,12 @@ from collections.abc import Set
 from typing import NamedTuple, Optional
 
 from elfmap._words import MOST_LETTERS, printable
+from elfmap.constants import EM
 
-_MIPS = 8
-_IA64 = 50
-_AARCH64 = 183
-_RISCV = 243
+_MIPS = EM.MIPS.value
+_IA64 = EM.IA_64.value
+_AARCH64 = EM.AARCH64.value
+_RISCV = EM.RISCV.value
 # What of the program a name is the address of, for each machine.
 _ADDRESSES = {
     b"__bss_start": "the beginning of .bss",

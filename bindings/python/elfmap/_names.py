@@ -1,13 +1,17 @@
-"""The names of numbers that processors and systems add to the format.
+"""The names of numbers: those of `constants`, and those that processors and systems add.
 
-They are those of the constants of <elf.h> of the GNU C library 2.36. The proved code keeps
+The latter are those of the constants of <elf.h> of the GNU C library 2.36. The proved code keeps
 such numbers and never interprets them: a name is for a reader alone. In the lists a word
 `@N` sets the number of the next name, and each name after it has the number that follows.
+`tools/release tables` makes page/names.js from this and from `constants`.
 """
 
 from __future__ import annotations
 
 import functools
+from enum import IntEnum
+
+from elfmap.constants import DT, ET, PF, PT, SHF, SHN, SHT, STB, STT
 
 
 def _numbered(names: str) -> dict[int, str]:
@@ -22,6 +26,18 @@ def _numbered(names: str) -> dict[int, str]:
     return found
 
 
+def _named(kind: type[IntEnum]) -> dict[int, str]:
+    return {it.value: name for name, it in kind.__members__.items()}
+
+
+# What the types of `e_type` are called.
+FILE_TYPES: dict[int, str] = {
+    ET.NONE: "no type",
+    ET.REL: "relocatable",
+    ET.EXEC: "executable",
+    ET.DYN: "shared object",
+    ET.CORE: "core",
+}
 # Those of `e_machine`, without the EM_ that each begins with.
 MACHINES = _numbered(
     """
@@ -41,18 +57,43 @@ MACHINES = _numbered(
     LOONGARCH @36902 ALPHA
     """
 )
-# Those of `sh_type`, without the SHT_.
-SECTION_TYPES = _numbered(
+# Those of `sh_type`, with those that LLVM and GNU add, without the SHT_.
+SECTION_TYPES = _named(SHT) | _numbered(
     """
-    NULL PROGBITS SYMTAB STRTAB RELA HASH DYNAMIC NOTE NOBITS REL SHLIB DYNSYM @14 INIT_ARRAY
-    FINI_ARRAY PREINIT_ARRAY GROUP SYMTAB_SHNDX RELR @0x6fff4c03 LLVM_ADDRSIG @0x6ffffff5
-    GNU_ATTRIBUTES GNU_HASH GNU_LIBLIST CHECKSUM @0x6ffffffd GNU_verdef GNU_verneed GNU_versym
+    @0x6fff4c03 LLVM_ADDRSIG @0x6ffffff5 GNU_ATTRIBUTES GNU_HASH GNU_LIBLIST CHECKSUM @0x6ffffffd
+    GNU_verdef GNU_verneed GNU_versym
     """
 )
-# Those of `p_type` that GNU adds, without the PT_.
-SEGMENT_TYPES = _numbered("@0x6474e550 GNU_EH_FRAME GNU_STACK GNU_RELRO GNU_PROPERTY")
-# Those of `d_tag` that GNU and Solaris add, without the DT_.
-DYNAMIC_TAGS = _numbered(
+# The letters of flags, as readelf prints them.
+SECTION_FLAGS: dict[int, str] = {
+    SHF.WRITE: "W",
+    SHF.ALLOC: "A",
+    SHF.EXECINSTR: "X",
+    SHF.MERGE: "M",
+    SHF.STRINGS: "S",
+    SHF.INFO_LINK: "I",
+    SHF.LINK_ORDER: "L",
+    SHF.OS_NONCONFORMING: "O",
+    SHF.GROUP: "G",
+    SHF.TLS: "T",
+    SHF.COMPRESSED: "C",
+}
+SEGMENT_FLAGS: dict[int, str] = {PF.R: "R", PF.W: "W", PF.X: "X"}
+# What an index of a section says that is of none.
+RESERVED_SECTIONS: dict[int, str] = {
+    SHN.UNDEF: "undefined",
+    SHN.ABS: "absolute",
+    SHN.COMMON: "common",
+}
+# Those of the halves of `st_info`, with those that GNU adds, without the STT_ and the STB_.
+SYMBOL_TYPES = _named(STT) | {10: "GNU_IFUNC"}
+SYMBOL_BINDINGS = _named(STB) | {10: "GNU_UNIQUE"}
+# Those of `p_type`, with those that GNU adds, without the PT_.
+SEGMENT_TYPES = _named(PT) | _numbered("@0x6474e550 GNU_EH_FRAME GNU_STACK GNU_RELRO GNU_PROPERTY")
+# Tags whose value is the offset of a string.
+STRING_TAGS = (DT.NEEDED, DT.SONAME, DT.RPATH, DT.RUNPATH)
+# Those of `d_tag`, with those that GNU and Solaris add, without the DT_.
+DYNAMIC_TAGS = _named(DT) | _numbered(
     """
     @0x6ffffdf5 GNU_PRELINKED GNU_CONFLICTSZ GNU_LIBLISTSZ CHECKSUM PLTPADSZ MOVEENT MOVESZ
     FEATURE_1 POSFLAG_1 SYMINSZ SYMINENT @0x6ffffef5 GNU_HASH TLSDESC_PLT TLSDESC_GOT GNU_CONFLICT

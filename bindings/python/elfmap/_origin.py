@@ -12,9 +12,10 @@ from typing import NamedTuple
 
 from elfmap._names import MACHINES
 from elfmap._words import NOBITS, SEGMENT, Words, printable
+from elfmap.constants import PT, SHT
 
-_NOTE = 7
-_NOTE_SEGMENT = 4
+_NOTE = SHT.NOTE.value
+_NOTE_SEGMENT = PT.NOTE.value
 _COMMENT = b".comment"
 _BUILD_ID = 3
 _GNU = b"GNU\0"

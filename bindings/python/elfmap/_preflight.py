@@ -20,15 +20,13 @@ from elfmap._findings import BadWord, Finding, Report, Rule, Unread
 from elfmap._hints import hints
 from elfmap._link_hints import link_hints
 from elfmap._link_map import MOST_FILES, Link, Options, Refusal
+from elfmap._link_places import NO_ENTRY, OF_SECTIONS, OF_SYMBOLS
 from elfmap._link_warnings import Warned, Warnings, lto_warnings
 from elfmap._link_words import (
     EXECUTABLE_TOO_LONG,
     MISMATCH,
-    NO_ENTRY,
     OF_ONE_FILE,
     OF_OPTIONS,
-    OF_SECTIONS,
-    OF_SYMBOLS,
     Linked,
     link_words,
 )

@@ -9,16 +9,16 @@ from __future__ import annotations
 import importlib
 import io
 import os
-import shutil
 import struct
-import subprocess
-import threading
 from collections.abc import Callable, Iterator
 from contextlib import contextmanager, suppress
 from functools import partial
-from typing import IO, Any, Optional
+from typing import IO, TYPE_CHECKING, Any, Optional
 
 from elfmap._sources import Source, Unreadable, reason_of
+
+if TYPE_CHECKING:
+    import subprocess
 
 _PIECE = 1 << 20
 # What follows a stream is copied for the next one.
@@ -314,6 +314,11 @@ class _Joined:
 @contextmanager
 def _piped(raw: Stream, name: str, options: str) -> Iterator[Callable[[int], bytes]]:
     """What a command writes, which reads the stream meanwhile."""
+    # Who reads a file that no command decompresses starts without these modules.
+    import shutil
+    import subprocess
+    import threading
+
     command = shutil.which(name)
     if not command:
         raise Unreadable(f"it can't be decompressed: there is no command {name} (package {name})")

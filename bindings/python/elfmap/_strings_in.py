@@ -2,10 +2,12 @@
 
 from __future__ import annotations
 
+from elfmap.constants import SHF
+
 from typing import NamedTuple, Optional
 
-_EXECINSTR = 4
-_STRINGS = 0x20
+_EXECINSTR = SHF.EXECINSTR.value
+_STRINGS = SHF.STRINGS.value
 # So many bytes before and after a byte are searched for the ends of a string.
 _MOST_BYTES = 4096
 # In a content that need not be strings a text has so many letters.

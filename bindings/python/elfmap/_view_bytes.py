@@ -60,11 +60,9 @@ def string_lines(view: View, screen: Screen, word: str, most: Optional[int]) -> 
     index = view.section_of(word)
     if index is None:
         raise BadWord(f"there is no section {printable(word.encode('utf-8', 'replace'), 200)}")
-    content = view.sections[index].content
+    it = view.sections[index]
+    content = view.data[it.sh_offset : view.content_end(it)]
     yield from screen.title(f"STRINGS of {view.section_name(index)}")
     mark = view.marks.content(index)
-    rows = (
-        (Cell(f"{at:#x}"), Cell(printable(it, most), mark))
-        for at, it in letters_of(bytes(content or b""))
-    )
+    rows = ((Cell(f"{at:#x}"), Cell(printable(own, most), mark)) for at, own in letters_of(content))
     yield from screen.table((Column("at", 0, True), Column("string")), rows)

@@ -3,8 +3,6 @@
 from __future__ import annotations
 
 import re
-import shutil
-import subprocess
 from collections.abc import Iterable
 from typing import Optional
 
@@ -16,6 +14,9 @@ _MOST_SECONDS = 60
 
 def _demangled(program: str, names: list[str]) -> dict[str, str]:
     """What a program makes of names; it prints a line for each."""
+    # Only who asks for it waits for the module.
+    import subprocess
+
     try:
         ran = subprocess.run(
             [program],
@@ -31,6 +32,8 @@ def _demangled(program: str, names: list[str]) -> dict[str, str]:
 
 
 def _program(*names: str) -> Optional[str]:
+    import shutil
+
     return next((it for it in names if shutil.which(it)), None)
 
 
@@ -38,12 +41,12 @@ class Demangler:
     """Demangles names, or leaves them as they are."""
 
     def __init__(self, is_wanted: bool) -> None:
-        self._is_wanted = is_wanted
+        self.is_wanted = is_wanted
         self._known: dict[str, str] = {}
 
     def learn(self, names: Iterable[str]) -> None:
         """Asks the programs for many names at once."""
-        if not self._is_wanted:
+        if not self.is_wanted:
             return
         new = [
             it for it in dict.fromkeys(names) if it not in self._known and _MANGLED.fullmatch(it)

@@ -4,15 +4,14 @@ tables."""
 from __future__ import annotations
 
 import itertools
-from collections.abc import Iterator, Sequence
+from collections.abc import Callable, Iterator, Sequence
+from typing import TypeVar
 
-import elfmap
-from elfmap._names import relocation_types
+from elfmap._names import STRING_TAGS, relocation_types
 from elfmap._view_demangle import Demangler
 from elfmap._view_filters import Filters
-from elfmap._view_image import MOST_LETTERS, Symbol, View, defined_words
+from elfmap._view_image import MOST_LETTERS, Symbol, View, defined_words, place_words
 from elfmap._view_names import (
-    STRING_TAGS,
     dynamic_tag,
     dynamic_value,
     note_owner,
@@ -22,12 +21,13 @@ from elfmap._view_names import (
     symbol_type,
     symbol_visibility,
 )
-from elfmap._view_screen import Cell, Column, Screen
+from elfmap._view_screen import Cell, Column, Screen, Table
+from elfmap._view_tables import AT_ONCE, Relocations, Symbols, all_printable
 from elfmap._words import ENTRY_SIZES, printable
-from elfmap.constants import GRP_COMDAT, SHT
+from elfmap.constants import GRP_COMDAT, SHT, STT
 
 # Names are demangled so many at once.
-_NAMES_AT_ONCE = 4096
+_NAMES_AT_ONCE = AT_ONCE
 _LONGEST_DESC = 32
 _SYMBOL_COLUMNS = (
     Column("#", 4, True),
@@ -75,11 +75,52 @@ def symbol_lines(
     view: View, screen: Screen, filters: Filters, demangler: Demangler
 ) -> Iterator[str]:
     """All symbols of all symbol tables."""
+    # A table of many entries without marks takes no cell for each value.
+    is_plain = filters.takes_all_symbols and not demangler.is_wanted and not view.marks.has_any
     for table in view.tables(SHT.SYMTAB, SHT.DYNSYM):
-        count = len(view.image.symbols(table))
+        count = view.image.symbol_count(table)
         yield from _table_title(view, screen, "SYMBOLS", table, f" ({count})")
-        chosen = (it for it in view.symbols(table) if filters.takes_symbol(view, it))
-        yield from symbol_table(view, screen, _sorted(view, chosen, filters), demangler)
+        if is_plain:
+            laid_out = Table(screen, _SYMBOL_COLUMNS)
+            for some in view.image.symbol_blocks(table):
+                yield from laid_out.plain_lines(_symbol_columns(view, table, some))
+        else:
+            chosen = (it for it in view.symbols(table) if filters.takes_symbol(view, it))
+            yield from symbol_table(view, screen, _sorted(view, chosen, filters), demangler)
+
+
+def _symbol_columns(view: View, table: int, some: Symbols) -> list[list[str]]:
+    """The words of each column, as `_symbol_row` has them."""
+    count = len(some.st_name)
+    names = all_printable(view.names_of(table, some), MOST_LETTERS)
+    places = list(zip(some.st_shndx, some.section))
+    if not all(names):
+        infos = zip(names, some.st_info, some.section)
+        names = [name or _name_without(view, info, section) for name, info, section in infos]
+    return [
+        list(map(str, range(some.first, some.first + count))),
+        list(map(hex, some.st_value)),
+        list(map("{:,}".format, some.st_size)),
+        _named(some.st_info, lambda info: symbol_type(info & 15)),
+        _named(some.st_info, lambda info: symbol_binding(info >> 4)),
+        _named(some.st_other, symbol_visibility),
+        _named(places, lambda place: place_words(view, *place)),
+        names,
+    ]
+
+
+_Value = TypeVar("_Value")
+
+
+def _named(values: Sequence[_Value], name: Callable[[_Value], str]) -> list[str]:
+    """The name of each value; that of equal ones is made once."""
+    names = {it: name(it) for it in set(values)}
+    return [names[it] for it in values]
+
+
+def _name_without(view: View, info: int, section: int) -> str:
+    """How a symbol is called that has no name."""
+    return view.section_name(section) if info & 15 == STT.SECTION else ""
 
 
 def _sorted(view: View, symbols: Iterator[Symbol], filters: Filters) -> Iterator[Symbol]:
@@ -110,8 +151,7 @@ def _symbol_rows(
 def _symbol_row(view: View, symbol: Symbol, demangler: Demangler) -> Sequence[Cell]:
     it = symbol.it
     mark = view.marks.entry(symbol.table, *_place(view, symbol.table, symbol.position))
-    is_there = 0 < it.section < len(view.sections)
-    of_section = view.marks.name(it.section) if is_there else ""
+    of_section = view.marks.name(it.section) if view.is_in_section(it) else ""
     name = demangler.name(view.symbol_name(it))
     return (
         Cell(str(symbol.position)),
@@ -132,55 +172,79 @@ def relocation_lines(
     view: View, screen: Screen, filters: Filters, demangler: Demangler
 ) -> Iterator[str]:
     """All relocations of all sections that have some."""
+    is_plain = filters.name is None and not demangler.is_wanted and not view.marks.has_any
     for table in view.tables(SHT.RELA, SHT.REL):
         section = view.sections[table]
         target = section.sh_info
         is_shown = filters.takes_table(view, table) or filters.takes_table(view, target)
         if not is_shown:
             continue
-        count = len(view.image.relocations(table))
+        count = view.image.relocation_count(table)
         about = f", of {view.section_name(target)}" if target else ""
         yield from _table_title(view, screen, "RELOCATIONS", table, f"{about} ({count})")
-        rows = _relocation_rows(view, table, filters, demangler)
-        yield from screen.table(_RELOCATION_COLUMNS, rows)
+        if is_plain:
+            laid_out = Table(screen, _RELOCATION_COLUMNS)
+            symbols = SymbolNames(view, section.sh_link)
+            for some in view.image.relocation_blocks(table):
+                yield from laid_out.plain_lines(_relocation_columns(view, symbols, some))
+        else:
+            rows = _relocation_rows(view, table, filters, demangler)
+            yield from screen.table(_RELOCATION_COLUMNS, rows)
+
+
+def _relocation_columns(view: View, symbols: SymbolNames, some: Relocations) -> list[list[str]]:
+    """The words of each column, as `_relocation_rows` has them."""
+    names = relocation_types(view.machine)
+    return [
+        list(map(str, range(some.first, some.first + len(some.r_offset)))),
+        list(map(hex, some.r_offset)),
+        _named(some.relocation_type, lambda kind: names.get(kind, str(kind))),
+        list(map(hex, some.r_addend)),
+        _named(some.symbol, symbols.of),
+    ]
 
 
 def _relocation_rows(
     view: View, table: int, filters: Filters, demangler: Demangler
 ) -> Iterator[Sequence[Cell]]:
     names = relocation_types(view.machine)
-    named = _named_relocations(view, table)
-    chosen = (it for it in named if filters.takes_name(it[2]))
-    while some := list(itertools.islice(chosen, _NAMES_AT_ONCE)):
-        demangler.learn(name for _, _, name in some)
-        for index, it, name in some:
+    symbols = SymbolNames(view, view.sections[table].sh_link)
+    for some in view.image.relocation_blocks(table):
+        rows = zip(some.r_offset, some.relocation_type, some.r_addend, map(symbols.of, some.symbol))
+        named = [(index, *it) for index, it in enumerate(rows, some.first)]
+        chosen = [it for it in named if filters.takes_name(it[-1])]
+        demangler.learn(it[-1] for it in chosen)
+        for index, offset, kind, addend, name in chosen:
             mark = view.marks.entry(table, *_place(view, table, index))
             yield (
                 Cell(str(index)),
-                Cell(f"{it.r_offset:#x}", mark),
-                Cell(names.get(it.relocation_type, str(it.relocation_type)), mark),
-                Cell(f"{it.r_addend:#x}", mark),
+                Cell(f"{offset:#x}", mark),
+                Cell(names.get(kind, str(kind)), mark),
+                Cell(f"{addend:#x}", mark),
                 Cell(demangler.name(name), mark if name else ""),
             )
 
 
-def _named_relocations(view: View, table: int) -> Iterator[tuple[int, elfmap.Relocation, str]]:
-    """The relocations of a table that lie in the file, and the names of their symbols."""
-    link = view.sections[table].sh_link
-    every = view.image.relocations(table)
-    for index in range(min(len(every), view.size // 16)):
-        try:
-            it = every[index]
-        except IndexError:
-            continue
-        yield index, it, _relocated_name(view, link, it)
+class SymbolNames:
+    """How the symbols are called that relocations name, each of which is read once."""
 
+    def __init__(self, view: View, table: int) -> None:
+        self._view = view
+        self._table = table
+        self._known: dict[int, str] = {}
 
-def _relocated_name(view: View, link: int, it: elfmap.Relocation) -> str:
-    found = view.symbol(link, it.symbol)
-    if found is None:
-        return f"symbol {it.symbol}, which isn't there" if it.symbol else ""
-    return view.symbol_name(found) or (f"symbol {it.symbol}" if it.symbol else "")
+    def of(self, index: int) -> str:
+        if index not in self._known:
+            self._known[index] = self._found(index)
+        return self._known[index]
+
+    def _found(self, index: int) -> str:
+        found = self._view.symbol(self._table, index)
+        name = self._view.symbol_name(found) if found else ""
+        # A relocation of symbol 0 has none.
+        if name or not index:
+            return name
+        return f"symbol {index}" if found else f"symbol {index}, which isn't there"
 
 
 # ---- Others
@@ -191,7 +255,7 @@ def dynamic_lines(view: View, screen: Screen, filters: Filters) -> Iterator[str]
     for table in view.tables(SHT.DYNAMIC):
         if not filters.takes_table(view, table):
             continue
-        every = view.image.dynamic(table)
+        every = list(view.image.entries_of_dynamic(table))
         yield from _table_title(view, screen, "DYNAMIC ARRAY", table, f" ({len(every)})")
         rows = []
         for index, it in enumerate(every):

@@ -8,12 +8,13 @@ unless it depends on what was left out.
 from __future__ import annotations
 
 import bisect
+import struct
 from collections.abc import Iterable
 from functools import cached_property
-from typing import Optional, Union
+from typing import NamedTuple, Optional
 
 import elfmap
-from elfmap._checks import Fault
+from elfmap._view_memory import Memory
 from elfmap._words import (
     GROUP,
     HEADER,
@@ -58,11 +59,23 @@ _COMPARED = {
     26: ("p_memsz",),
     28: ("p_vaddr", "p_align"),
 }
+# Where the content of a section is.
+_OF_PLACE = ("sh_offset", "sh_size")
+# The letter of a number of so many bytes.
+_LETTERS = {1: "B", 2: "H", 4: "I", 8: "Q"}
 # Fields of the ELF header that have one right value: where they are, how wide, and the value.
 _RIGHT = {6: (6, 1, 1), 7: (20, 4, 1), 8: (52, 2, 64)}
 
 
-def _verdict(data: Union[bytes, bytearray]) -> Optional[Fault]:
+class Fault(NamedTuple):
+    """A rule broken at an offset: of the table in a section, or of the file."""
+
+    rule: int
+    at: int
+    table: Optional[int] = None
+
+
+def _verdict(data: memoryview) -> Optional[Fault]:
     try:
         elfmap.parse(data).close()
     except elfmap.Refused as refused:
@@ -79,8 +92,10 @@ def field_at(layout: Layout, within: int) -> str:
 class _Mender:
     """A copy of a file, of which one fault after another is put right or left out."""
 
-    def __init__(self, data: bytes) -> None:
-        self.copy = bytearray(data)
+    def __init__(self, data: Memory) -> None:
+        self.copy = data.copy()
+        self.view = memoryview(self.copy)[: len(data)]
+        self._has_changed = False
         # The sections that are left out, and what is left out as a whole.
         self.left_out: set[int] = set()
         self.lost: set[str] = set()
@@ -89,6 +104,11 @@ class _Mender:
     def mend(self, fault: Fault) -> bool:
         """Whether the copy no longer has this fault."""
         self._words = Words(self.copy)
+        self._has_changed = False
+        return self._changes(fault) and self._has_changed
+
+    def _changes(self, fault: Fault) -> bool:
+        """Whether there is a way to put it right, which is tried."""
         rule = fault.rule
         at = fault.at
         if rule in _RIGHT:
@@ -113,8 +133,11 @@ class _Mender:
         return rule == SHARED_BYTE and self._share(at)
 
     def _put(self, at: int, width: int, value: int) -> bool:
-        order = "big" if self._words.order == ">" else "little"
-        self.copy[at : at + width] = value.to_bytes(width, order)  # type: ignore[arg-type]
+        content = struct.pack(f"{self._words.order}{_LETTERS[width]}", value)
+        if at + width > len(self.view):
+            return False
+        self._has_changed |= self.copy[at : at + width] != content
+        self.copy[at : at + width] = content
         return True
 
     def _first_header(self, rule: int, at: int) -> bool:
@@ -161,18 +184,18 @@ class _Mender:
 
     def _share(self, at: int) -> bool:
         """Of those that share a byte the last section is left out, or else a table."""
-        owners = [(index, words) for index, words, *_ in self._words.owners(at)]
-        sections = [index for index, _ in owners if index is not None]
+        sections = self._words.holding(at)
         if sections:
             return self._leave_out(sections[-1])
-        has_segments = any(words.startswith("the program") for _, words in owners)
+        tables = [words for words, *_ in self._words.tables_with(at)]
+        has_segments = any(words.startswith("the program") for words in tables)
         return self._drop_segments() if has_segments else self._drop_sections()
 
 
 class Faults:
     """What a file breaks: of its image, and of its tables if these can be judged."""
 
-    def __init__(self, data: bytes) -> None:
+    def __init__(self, data: Memory) -> None:
         self.of_image: list[Fault] = []
         self.of_tables: list[Fault] = []
         # The tables that could not be judged.
@@ -196,10 +219,10 @@ class Faults:
         """Those of tables, by their sections."""
         return {it.table: it for it in self.of_tables if it.table is not None}
 
-    def _find(self, data: bytes) -> None:
-        fault = _verdict(data)
+    def _find(self, data: Memory) -> None:
+        fault = _verdict(data.view)
         if not fault:
-            self._judge(data, data)
+            self._judge(data.view, data)
             return
         mender = _Mender(data)
         count = max(Words(data).count, 1)
@@ -207,15 +230,14 @@ class Faults:
             if not fault:
                 break
             self._add(fault)
-            before = bytes(mender.copy) if len(data) < 1 << 16 else b""
-            if not mender.mend(fault) or mender.copy == before:
+            if not mender.mend(fault):
                 break
-            fault = _verdict(mender.copy)
+            fault = _verdict(mender.view)
         self.is_complete = fault is None
         self.lost = mender.lost
         self.left_out = mender.left_out
         if self.is_complete and SECTIONS not in self.lost:
-            self._judge(mender.copy, data)
+            self._judge(mender.view, data)
 
     def _add(self, fault: Fault) -> None:
         """Keeps a fault, if it is one of the file and not of the copy alone."""
@@ -224,7 +246,7 @@ class Faults:
         if fault.rule != _LOAD_OUT_OF_ORDER or fault.rule not in rules:
             self.of_image.append(fault)
 
-    def _judge(self, copy: Union[bytes, bytearray], data: bytes) -> None:
+    def _judge(self, copy: memoryview, data: Memory) -> None:
         try:
             found = elfmap.refused_tables(copy)
         except elfmap.Refused:
@@ -285,17 +307,16 @@ class Marks:
 
     def _share(self, at: int) -> None:
         """Each part that has a shared byte is at a wrong place, or too long."""
-        for index, words, *_ in self._words.owners(at):
-            if index is not None:
-                self._shared.add(index)
-                self._broken |= {("section", index, it) for it in ("sh_offset", "sh_size")}
-            elif words != "the ELF header":
+        self._shared.update(self._words.holding(at))
+        for words, *_ in self._words.tables_with(at):
+            if words != "the ELF header":
                 field = "e_shoff" if words.startswith("the section") else "e_phoff"
                 self._broken.add(("header", 0, field))
                 self._scopes.add(SECTIONS if field == "e_shoff" else SEGMENTS)
 
     def _mark(self, kind: str, index: int, field: str, scopes: Iterable[str]) -> str:
-        if (kind, index, field) in self._broken:
+        is_shared = kind == "section" and field in _OF_PLACE and index in self._shared
+        if is_shared or (kind, index, field) in self._broken:
             return BROKEN
         is_doubtful = (kind, index, field) in self._doubtful or self._scopes & {ALL, *scopes}
         return DOUBTFUL if is_doubtful else ""

@@ -9,13 +9,10 @@ from contextlib import ExitStack
 
 from elfmap._archives import Content, Contents
 from elfmap._commands import DONE, FOUND, UNREADABLE, complain
-from elfmap._findings import Globs, Report
 from elfmap._packages import Opener
 from elfmap._sources import Source, Unreadable, opened, standard_input
 from elfmap._view_image import View
-from elfmap._walk import Walk
 from elfmap._words import one_line
-from elfmap.explain import Files
 
 PROGRAM = "elfmap-view"
 _STANDARD_INPUT = b"-"
@@ -56,6 +53,9 @@ class Reader:
 
     def _contents(self, path: bytes, is_named: bool, stack: ExitStack) -> Iterator[Content]:
         if path != _STANDARD_INPUT and path.endswith(b")") and not os.path.lexists(path):
+            # Few commands name a member, or look below directories: the others start sooner.
+            from elfmap.explain import Files
+
             words, file = stack.enter_context(Files()).words(path)
             assert isinstance(words.data, Source)
             yield Content(path, file, words.data)
@@ -75,6 +75,9 @@ class Reader:
 
     def below(self, paths: list[bytes]) -> Iterator[View]:
         """The ELF files of files and directories."""
+        from elfmap._findings import Globs, Report
+        from elfmap._walk import Walk
+
         report = Report()
         for found in Walk(paths, Globs(()), report):
             yield from self.views(found.path, is_named=False)

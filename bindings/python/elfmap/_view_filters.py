@@ -21,6 +21,11 @@ class Filters(NamedTuple):
     defined: bool = False
     sort: Optional[str] = None
 
+    @property
+    def takes_all_symbols(self) -> bool:
+        """Whether all symbols are shown, in their order."""
+        return self == Filters()
+
     def takes_name(self, name: str) -> bool:
         return self.name is None or fnmatch.fnmatchcase(name, self.name)
 
@@ -49,7 +54,6 @@ class Filters(NamedTuple):
         if self.undefined and not is_undefined or self.defined and is_undefined:
             return False
         if self.section is not None and not self._has_section(view, symbol.table):
-            is_there = 0 < it.section < len(view.sections)
-            if not is_there or not self._has_section(view, it.section):
+            if not view.is_in_section(it) or not self._has_section(view, it.section):
                 return False
         return self.takes_name(view.symbol_name(it))

@@ -6,13 +6,14 @@ from collections.abc import Callable, Iterator, Sequence
 from typing import Any
 
 from elfmap._names import machine_words, section_type
+from elfmap._view_faults import BROKEN
 from elfmap._view_filters import Filters
 from elfmap._view_image import Extent, View
 from elfmap._view_names import (
-    FILE_TYPES,
-    SECTION_FLAGS,
+    FILES,
     SECTION_KEY,
-    SEGMENT_FLAGS,
+    SECTION_LETTERS,
+    SEGMENT_LETTERS,
     flags_words,
     segment_type,
 )
@@ -78,7 +79,7 @@ def header_lines(view: View, screen: Screen) -> Iterator[str]:
 
 def _field_words(view: View, name: str, value: int) -> str:
     if name == "e_type":
-        return f"{value} ({FILE_TYPES[value]})" if value in FILE_TYPES else str(value)
+        return f"{value} ({FILES[value]})" if value in FILES else str(value)
     if name == "e_machine":
         return machine_words(value)
     if name == "e_shnum" and not value and view.image.counts[0]:
@@ -119,7 +120,7 @@ def _section_row(view: View, index: int) -> Sequence[Cell]:
     kind = section_type(it.sh_type, view.machine)
     words = {
         "sh_type": kind,
-        "sh_flags": flags_words(it.sh_flags, SECTION_FLAGS),
+        "sh_flags": flags_words(it.sh_flags, SECTION_LETTERS),
         "sh_addr": f"{it.sh_addr:#x}",
         "sh_offset": f"{it.sh_offset:#x}",
         "sh_size": f"{it.sh_size:,}",
@@ -129,8 +130,10 @@ def _section_row(view: View, index: int) -> Sequence[Cell]:
         "sh_entsize": str(it.sh_entsize),
     }
     cells = [Cell(word, view.marks.section(index, field)) for field, word in words.items()]
-    name = Cell(view.section_name(index) if it.sh_type else "", view.marks.name(index))
-    return Cell(str(index)), *cells, name
+    name = view.section_name(index) if it.sh_type else ""
+    mark = view.marks.name(index)
+    # A name that is none depends on nothing, but its offset may break a rule.
+    return Cell(str(index)), *cells, Cell(name, mark if name or mark == BROKEN else "")
 
 
 def _ends_of_sections(view: View) -> Iterator[tuple[str, int, int]]:
@@ -187,7 +190,7 @@ def _segment_row(view: View, index: int) -> Sequence[Cell]:
     it = view.segments[index]
     words = {
         "p_type": segment_type(it.p_type),
-        "p_flags": flags_words(it.p_flags, SEGMENT_FLAGS),
+        "p_flags": flags_words(it.p_flags, SEGMENT_LETTERS),
         "p_offset": f"{it.p_offset:#x}",
         "p_filesz": f"{it.p_filesz:,}",
         "p_vaddr": f"{it.p_vaddr:#x}",
@@ -220,10 +223,11 @@ def load_lines(view: View, screen: Screen) -> Iterator[str]:
         zeros = f"{it.p_memsz - it.p_filesz:,}" if it.p_memsz > it.p_filesz else ""
         names = _names_in(view, index)
         row = Cell(f"{it.p_vaddr:#x}", mark), Cell(f"{end:#x}", mark)
-        flags = Cell(flags_words(it.p_flags, SEGMENT_FLAGS), view.marks.segment(index, "p_flags"))
+        flags = Cell(flags_words(it.p_flags, SEGMENT_LETTERS), view.marks.segment(index, "p_flags"))
         file = Cell(f"{it.p_offset:#x}", view.marks.segment(index, "p_offset"))
         mark = view.marks.of_all
-        rows.append((*row, flags, file, Cell(zeros, mark if zeros else ""), Cell(names, mark)))
+        of_names = Cell(names, mark if names else "")
+        rows.append((*row, flags, file, Cell(zeros, mark if zeros else ""), of_names))
     columns = (
         Column("from", 0, True),
         Column("to", 0, True),

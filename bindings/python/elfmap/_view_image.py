@@ -3,23 +3,22 @@
 from __future__ import annotations
 
 import bisect
-import ctypes
 import heapq
 import itertools
-from collections.abc import Callable, Iterator
+from collections.abc import Iterator
 from functools import cached_property
-from typing import Any, NamedTuple, Optional, TypeVar
+from typing import NamedTuple, Optional
 
 import elfmap
-from elfmap import _declared
 from elfmap._archives import Content
-from elfmap._sources import LONGEST, Unreadable
+from elfmap._kinds import TYPES, colour_of_flags, colour_of_type
 from elfmap._view_faults import Faults, Marks
-from elfmap._words import LONGEST_NAME, Words, printable
-from elfmap.constants import EI_DATA, PT, SHF, SHN, SHT, STT
-from elfmap.picture import TYPES, colour_of_flags, colour_of_type
+from elfmap._view_memory import Memory
+from elfmap._view_records import Image
+from elfmap._view_tables import Symbols, all_printable, strings_at
+from elfmap._words import Words, printable
+from elfmap.constants import PT, SHF, SHN, SHT, STT
 
-_Record = TypeVar("_Record")
 # So many letters of a name are on a screen.
 MOST_LETTERS = 200
 _LEAST_SIZE = 64
@@ -28,79 +27,10 @@ _HEADER_SIZE = 64
 _SECTION_SIZE = 64
 _SEGMENT_SIZE = 56
 _GAP = "gap"
+_LORESERVE = 0xFF00
+_XINDEX = 0xFFFF
 # Symbols that name no place: of files, and of sections, which have a name by themselves.
 _NO_PLACES = (STT.FILE, STT.SECTION, STT.TLS)
-
-
-class Image(elfmap.File):
-    """The records of any bytes, as far as they lie in them: no file is refused."""
-
-    def _validate(self) -> None:
-        """The faults of a file are found by themselves."""
-
-    def _filled(self, kind: type, name: str, index: Optional[int] = None) -> Any:
-        """The struct that a call fills in. Where the file has not what it says, it is one of zeros,
-        or of what the header alone says."""
-        try:
-            return super()._filled(kind, name, index)
-        except RuntimeError:
-            if index is not None:
-                raise
-        return self._of_header() if kind is _declared.File else kind()
-
-    def _of_header(self) -> _declared.File:
-        """What the header says of the two tables, where section header 0 does not lie in the
-        file."""
-        it = self._filled(_declared.Header, "elfmap_header")
-        own = _declared.File(e_phoff=it.e_phoff, e_shoff=it.e_shoff, ei_data=it.e_ident[EI_DATA])
-        own.sections = it.e_shnum
-        own.name_table = it.e_shstrndx
-        # Section header 0 would have a count that does not fit.
-        own.segments = 0 if it.e_phnum == SHN.XINDEX else it.e_phnum
-        return own
-
-    def _symbol(self, _: _declared.Table, it: _declared.Symbol) -> elfmap.Symbol:
-        """A symbol with so much of its name: names may share bytes."""
-        name = self._at(it.name.start, min(it.name.len, LONGEST_NAME))
-        return elfmap.Symbol(bytes(name), *elfmap._values(it)[1:])
-
-    def _section(self, index: int) -> elfmap.Section:
-        """A section with so much of its name; without one where the names are not there."""
-        fields = elfmap._values(self._filled(_declared.Section, "elfmap_section", index))
-        place = _declared.Extent()
-        self._call("elfmap_name", index, place, of=(self._numbers,))
-        name = bytes(self._at(place.start, min(place.len, LONGEST_NAME)))
-        section = elfmap.Section._make([*fields, name, None])
-        if section.sh_type in (SHT.NULL, SHT.NOBITS):
-            return section
-        return section._replace(content=self._at(section.sh_offset, section.sh_size))
-
-    @property
-    def counts(self) -> tuple[int, int]:
-        """How many section headers and program headers there should be."""
-        return self._numbers.sections, self._numbers.segments
-
-    def section(self, index: int) -> Optional[elfmap.Section]:
-        """A section whose header lies in the file."""
-        try:
-            return self._section(index)
-        except RuntimeError:
-            return None
-
-    def segment(self, index: int) -> Optional[elfmap.Segment]:
-        """A segment whose header lies in the file."""
-        try:
-            return self._segment(index)
-        except RuntimeError:
-            return None
-
-    def owners(self, offset: int) -> Iterator[int]:
-        """All that has a byte, in the numbers of include/elfmap.h."""
-        owner = ctypes.c_uint64()
-        first = 0
-        while self._call("elfmap_owner", offset, first, owner, of=(self._numbers,)):
-            yield owner.value
-            first = owner.value + 1
 
 
 class Extent(NamedTuple):
@@ -133,16 +63,11 @@ class View:
 
     def __init__(self, content: Content) -> None:
         self.path = content.path
-        source = content.source
-        self.data = source[: min(len(source), LONGEST)]
-        if len(self.data) < min(len(source), LONGEST):
-            raise Unreadable("it became shorter while it was read")
+        self.data = Memory(content.source)
         self.faults = Faults(self.data)
         self.words = Words(self.data, MOST_LETTERS)
         self.image = Image(self.data)
         self.marks = Marks(self.words, self.faults)
-        # The names of sections, once they were asked for.
-        self._names: dict[int, str] = {}
 
     @property
     def size(self) -> int:
@@ -161,21 +86,16 @@ class View:
 
     @cached_property
     def sections(self) -> list[elfmap.Section]:
-        """Those whose headers lie in the file."""
-        return self._there(self.image.section, self.image.counts[0], _SECTION_SIZE)
+        """Those whose headers lie in the file, without their contents."""
+        return self.image.records_of_sections() if self.has_header else []
 
     @cached_property
     def segments(self) -> list[elfmap.Segment]:
-        """Those whose headers lie in the file."""
-        return self._there(self.image.segment, self.image.counts[1], _SEGMENT_SIZE)
-
-    def _there(
-        self, read: Callable[[int], Optional[_Record]], count: int, size: int
-    ) -> list[_Record]:
-        most = min(count, len(self.data) // size) if self.has_header else 0
+        """Those whose headers lie in the file, without their contents."""
+        most = min(self.image.counts[1], len(self.data) // _SEGMENT_SIZE) if self.has_header else 0
         found = []
         for index in range(most):
-            it = read(index)
+            it = self.image.segment(index)
             if it is None:
                 break
             found.append(it)
@@ -191,12 +111,13 @@ class View:
 
     def section_name(self, index: int) -> str:
         """The name of a section, or its index where it has none."""
-        if not 0 <= index < len(self.sections):
-            return f"section {index}"
-        if index not in self._names:
-            name = printable(self.sections[index].name, MOST_LETTERS)
-            self._names[index] = name or f"section {index}"
-        return self._names[index]
+        names = self._section_names
+        return names[index] if 0 <= index < len(names) else f"section {index}"
+
+    @cached_property
+    def _section_names(self) -> list[str]:
+        names = all_printable([it.name for it in self.sections], MOST_LETTERS)
+        return [name or f"section {index}" for index, name in enumerate(names)]
 
     def section_of(self, word: str) -> Optional[int]:
         """The section of this name, or else of this index."""
@@ -212,20 +133,30 @@ class View:
 
     # ---- Symbols
 
+    def names_of(self, table: int, symbols: Symbols) -> list[bytes]:
+        """The names of symbols of a table, or so much of each."""
+        strings = self.image.strings_of(table)
+        return strings_at(self.data.room, strings, symbols.st_name)
+
     def symbols(self, table: int) -> Iterator[Symbol]:
         """The symbols of a table that lie in the file."""
-        every = self.image.symbols(table)
-        for index in range(min(len(every), len(self.data) // 24)):
-            try:
-                yield Symbol(table, index, every[index])
-            except IndexError:
-                continue
+        for some in self.image.symbol_blocks(table):
+            columns = some.st_value, some.st_size, some.st_name, some.section
+            others = some.st_shndx, some.st_info, some.st_other
+            rows = zip(self.names_of(table, some), *columns, *others)
+            for position, row in enumerate(rows, some.first):
+                yield Symbol(table, position, elfmap.Symbol._make(row))
+
+    def is_in_section(self, it: elfmap.Symbol) -> bool:
+        """Whether a symbol is defined in a section that is there."""
+        return self.has_section(it.section, it.st_shndx)
+
+    def has_section(self, section: int, st_shndx: int) -> bool:
+        """The same, by the index of the section, and that in the symbol."""
+        return 0 < section < len(self.sections) and not _is_reserved(st_shndx)
 
     def symbol(self, table: int, index: int) -> Optional[elfmap.Symbol]:
-        try:
-            return self.image.symbols(table)[index]
-        except IndexError:
-            return None
+        return self.image.symbol(table, index)
 
     def symbol_name(self, it: elfmap.Symbol) -> str:
         """The name of a symbol; a symbol of a section may have that of its section."""
@@ -238,32 +169,39 @@ class View:
         """The tables with all symbols, or else those of the dynamic ones."""
         return self.tables(SHT.SYMTAB) or self.tables(SHT.DYNSYM)
 
-    @cached_property
-    def _placed(self) -> list[tuple[int, int, int, int]]:
-        """Where symbols are that are defined in a section: by section in a relocatable file."""
-        found = []
-        for table in self.symbol_tables:
-            for _, index, it in self.symbols(table):
-                if it.symbol_type not in _NO_PLACES and 0 < it.section < len(self.sections):
-                    found.append((self._base_of(it.section), it.st_value, table, index))
-        return sorted(found)
-
-    def _base_of(self, section: int) -> int:
-        """What the value of a symbol counts from: the section in a relocatable file."""
-        return section if self.words.number(16, 2) == elfmap.ET.REL else 0
-
     def nearest(self, section: int, value: int) -> Optional[tuple[Symbol, int]]:
-        """The last symbol at or before a value, if it has the value or says no size; and how far
-        the value is behind it."""
-        base = self._base_of(section)
-        at = bisect.bisect_right(self._placed, (base, value, 1 << 64, 1 << 64))
-        for own, start, table, index in reversed(self._placed[max(at - 64, 0) : at]):
-            it = self.symbol(table, index)
-            if own != base or it is None or it.section != section:
-                continue
-            if value - start < max(it.st_size, 1) or not it.st_size:
-                return Symbol(table, index, it), value - start
-        return None
+        """The last symbol of a section at or before a value, if it has the value or says no size;
+        and how far the value is behind it."""
+        best = -1, -1, -1
+        for table in self.symbol_tables:
+            for some in self.image.symbol_blocks(table):
+                rows = zip(some.st_value, some.st_size, some.section)
+                for position, (start, size, own) in enumerate(rows, some.first):
+                    if start <= value and (value - start < size or not size) and own == section:
+                        k = position - some.first
+                        is_reserved = _is_reserved(some.st_shndx[k])
+                        if not is_reserved and some.st_info[k] & 15 not in _NO_PLACES:
+                            best = max(best, (start, table, position))
+        start, table, position = best
+        it = self.symbol(table, position) if start >= 0 else None
+        return (Symbol(table, position, it), value - start) if it else None
+
+    def largest_symbols(self, most: int) -> list[Symbol]:
+        """The largest symbols that are in a section, and of equal ones the first; the largest
+        first."""
+        best: list[tuple[int, int, int]] = []
+        least = 0
+        for table in self.symbol_tables:
+            for some in self.image.symbol_blocks(table):
+                for k, size in enumerate(some.st_size):
+                    if size > least and self.has_section(some.section[k], some.st_shndx[k]):
+                        heapq.heappush(best, (size, -table, -some.first - k))
+                        if len(best) > most:
+                            heapq.heappop(best)
+                            least = best[0][0]
+        places = [(-table, -position) for _, table, position in sorted(best, reverse=True)]
+        found = ((*place, self.symbol(*place)) for place in places)
+        return [Symbol(table, position, it) for table, position, it in found if it]
 
     # ---- Parts
 
@@ -317,8 +255,7 @@ class View:
         return found
 
     def _gap(self, start: int, end: int) -> Extent:
-        is_zeros = self.data.count(0, start, end) == end - start
-        words = "zeros" if is_zeros else "not only zeros"
+        words = "zeros" if self.data.is_zeros(start, end) else "not only zeros"
         return Extent(start, end, _GAP, None, "", words, _GAP)
 
     @cached_property
@@ -391,13 +328,21 @@ def _may_have(segment: elfmap.Segment, section: elfmap.Section) -> bool:
     return not is_local or section.sh_type != SHT.NOBITS
 
 
+def _is_reserved(st_shndx: int) -> bool:
+    """Whether it is the index of no section, as of an absolute symbol."""
+    return _LORESERVE <= st_shndx < _XINDEX
+
+
 def defined_words(view: View, it: elfmap.Symbol) -> str:
     """Where a symbol is defined, in a word or the name of a section."""
-    if it.st_shndx == SHN.UNDEF:
-        return "undefined"
-    names = {int(SHN.ABS): "absolute", int(SHN.COMMON): "common"}
-    if it.st_shndx in names:
-        return names[it.st_shndx]
-    if it.st_shndx >= 0xFF00 and it.st_shndx != SHN.XINDEX:
-        return hex(it.st_shndx)
-    return view.section_name(it.section)
+    return place_words(view, it.st_shndx, it.section)
+
+
+_PLACES = {int(SHN.UNDEF): "undefined", int(SHN.ABS): "absolute", int(SHN.COMMON): "common"}
+
+
+def place_words(view: View, st_shndx: int, section: int) -> str:
+    """The same, by the index in the symbol, and that of its section."""
+    if st_shndx in _PLACES:
+        return _PLACES[st_shndx]
+    return hex(st_shndx) if _is_reserved(st_shndx) else view.section_name(section)

@@ -3,17 +3,17 @@ _view_schema.py."""
 
 from __future__ import annotations
 
+import itertools
 import json
-from collections.abc import Iterator
+from collections.abc import Callable, Iterable, Iterator
 from typing import Any
 
-from elfmap._names import MACHINES, relocation_types, section_type
+from elfmap._names import MACHINES, STRING_TAGS, relocation_types, section_type
 from elfmap._origin import origin_of
 from elfmap._rules import RULES
 from elfmap._view_faults import BROKEN, DOUBTFUL
-from elfmap._view_image import Symbol, View, defined_words
+from elfmap._view_image import View, place_words
 from elfmap._view_names import (
-    STRING_TAGS,
     dynamic_tag,
     note_owner,
     note_words,
@@ -24,40 +24,73 @@ from elfmap._view_names import (
 )
 from elfmap._view_schema import FIELDS_OF_SECTION, FIELDS_OF_SEGMENT, MOST_SECTIONS, VERSION
 from elfmap._view_sizes import by_section, by_segment, by_symbol
+from elfmap._view_tables import all_printable
 from elfmap._words import ENTRY_SIZES, HEADER, explain, printable
 from elfmap.constants import SHT
 
 _MARKS = {BROKEN: "broken", DOUBTFUL: "depends", "": None}
+# So many objects of small tables are made at once.
+_AT_ONCE = 64
 Record = dict[str, Any]
 
 
-def encoded(record: Record) -> str:
-    return json.dumps(record)
+encoded = json.JSONEncoder().encode
 
 
-def file_record(view: View) -> Record:
-    """All of a file, but for its symbols and relocations."""
-    record: Record = {"schema": VERSION, **_path(view), "size": view.size}
-    record["verdict"] = _verdict(view)
+# The texts of objects, some at a time: there may be millions of them.
+Texts = Iterator[list[str]]
+Fields = Iterator[tuple[str, Any]]
+
+
+def _fields(view: View) -> Fields:
+    """All of a file, but for its symbols and relocations: values, and the texts of objects."""
+    yield "schema", VERSION
+    yield from _path(view).items()
+    yield "size", view.size
+    yield "verdict", _verdict(view)
     if not view.has_header:
-        return {**record, "header": None}
+        yield "header", None
+        return
     origin = origin_of(view.words)
-    return {
-        **record,
-        "header": _header(view),
-        "machine_name": MACHINES.get(view.machine),
-        "build_id": origin.build_id or None,
-        "producers": list(origin.producers),
-        "mark": _MARKS[view.marks.of_all],
-        "sections": [_section(view, it) for it in range(len(view.sections))],
-        "sections_missing": view.missing[0],
-        "segments": [_segment(view, it) for it in range(len(view.segments))],
-        "segments_missing": view.missing[1],
-        "parts": list(_parts(view)),
-        "dynamic": list(_dynamic(view)),
-        "notes": list(_notes(view)),
-        "groups": list(_groups(view)),
-    }
+    yield "header", _header(view)
+    yield "machine_name", MACHINES.get(view.machine)
+    yield "build_id", origin.build_id or None
+    yield "producers", list(origin.producers)
+    yield "mark", _MARKS[view.marks.of_all]
+    yield "sections", _texts(_section(view, it) for it in range(len(view.sections)))
+    yield "sections_missing", view.missing[0]
+    yield "segments", _texts(_segment(view, it) for it in range(len(view.segments)))
+    yield "segments_missing", view.missing[1]
+    yield "parts", _texts(_parts(view))
+    yield "dynamic", _texts(_dynamic(view))
+    yield "notes", _texts(_notes(view))
+    yield "groups", _texts(_groups(view))
+
+
+def _texts(records: Iterator[Record]) -> Texts:
+    while some := [encoded(it) for it in itertools.islice(records, _AT_ONCE)]:
+        yield some
+
+
+def _object(fields: Fields) -> Iterator[str]:
+    """An object in a line, in pieces."""
+    front = "{"
+    for name, value in fields:
+        yield f'{front}"{name}": '
+        front = ", "
+        if isinstance(value, Iterator):
+            yield from _list(value)
+        else:
+            yield encoded(value)
+    yield "}\n"
+
+
+def _list(every: Texts) -> Iterator[str]:
+    front = "["
+    for some in every:
+        yield front + ", ".join(some)
+        front = ", "
+    yield "]" if front != "[" else "[]"
 
 
 def _path(view: View) -> Record:
@@ -141,7 +174,7 @@ def _parts(view: View) -> Iterator[Record]:
 
 def _dynamic(view: View) -> Iterator[Record]:
     for table in view.tables(SHT.DYNAMIC):
-        for index, it in enumerate(view.image.dynamic(table)):
+        for index, it in enumerate(view.image.entries_of_dynamic(table)):
             place = view.sections[table].sh_offset + 16 * index
             yield {
                 "table": table,
@@ -184,50 +217,76 @@ def _groups(view: View) -> Iterator[Record]:
 # ---- Large tables
 
 
-def symbol_records(view: View) -> Iterator[Record]:
+# An entry is a text from the first: these tables may have millions.
+
+
+def symbol_texts(view: View) -> Texts:
+    """All symbols, each as the text of an object, many at a time."""
     for table in view.tables(SHT.SYMTAB, SHT.DYNSYM):
-        for symbol in view.symbols(table):
-            yield _symbol(view, symbol)
+        fields = _Fields(lambda it: _symbol_fields(view, it))
+        for some in view.image.symbol_blocks(table):
+            count = len(some.st_name)
+            names = map(encoded, all_printable(view.names_of(table, some)))
+            numbers = zip(range(some.first, some.first + count), names, some.st_value, some.st_size)
+            marks = _marks_of(view, table, 24, some.first, count)
+            others = zip(some.st_info, some.st_other, some.st_shndx, some.section, marks)
+            yield [
+                f'{{"table": {table}, "index": {index}, "name": {name}, "st_value": {value},'
+                f' "st_size": {size}, {fields[other]}}}'
+                for (index, name, value, size), other in zip(numbers, others)
+            ]
 
 
-def _symbol(view: View, symbol: Symbol) -> Record:
-    it = symbol.it
-    place = view.sections[symbol.table].sh_offset + 24 * symbol.position
+def _symbol_fields(view: View, values: tuple[Any, ...]) -> Record:
+    """The fields of a symbol that many others share."""
+    info, other, st_shndx, section, mark = values
     return {
-        "table": symbol.table,
-        "index": symbol.position,
-        "name": printable(it.name),
-        "st_value": it.st_value,
-        "st_size": it.st_size,
-        "type": symbol_type(it.symbol_type),
-        "binding": symbol_binding(it.binding),
-        "visibility": symbol_visibility(it.st_other),
-        "st_shndx": it.st_shndx,
-        "section": it.section,
-        "place": defined_words(view, it),
-        "mark": _MARKS[view.marks.entry(symbol.table, place, 24)],
+        "type": symbol_type(info & 15),
+        "binding": symbol_binding(info >> 4),
+        "visibility": symbol_visibility(other),
+        "st_shndx": st_shndx,
+        "section": section,
+        "place": place_words(view, st_shndx, section),
+        "mark": _MARKS[mark],
     }
 
 
-def relocation_records(view: View) -> Iterator[Record]:
+class _Fields(dict[tuple[Any, ...], str]):
+    """The text of the fields that these values make, without its braces."""
+
+    def __init__(self, fields: Callable[[tuple[Any, ...]], Record]) -> None:
+        super().__init__()
+        self._fields = fields
+
+    def __missing__(self, values: tuple[Any, ...]) -> str:
+        self[values] = encoded(self._fields(values))[1:-1]
+        return self[values]
+
+
+def _marks_of(view: View, table: int, size: int, first: int, count: int) -> Iterable[str]:
+    """The marks of so many entries of a table."""
+    marks = view.marks
+    start = view.sections[table].sh_offset + size * first
+    if not marks.broken_in(start, start + size * count):
+        return itertools.repeat(marks.content(table), count)
+    places = range(start, start + size * count, size)
+    return [marks.entry(table, it, size) for it in places]
+
+
+def relocation_texts(view: View) -> Texts:
+    """All relocations, each as the text of an object, many at a time."""
     names = relocation_types(view.machine)
+    types = _Fields(lambda it: {"r_type": it[0], "type": names.get(it[0])})
     for table in view.tables(SHT.RELA, SHT.REL):
-        section = view.sections[table]
-        size = ENTRY_SIZES[section.sh_type]
-        every = view.image.relocations(table)
-        for index in range(min(len(every), view.size // 16)):
-            it = every[index]
-            place = section.sh_offset + size * index
-            yield {
-                "table": table,
-                "index": index,
-                "r_offset": it.r_offset,
-                "r_type": it.relocation_type,
-                "type": names.get(it.relocation_type),
-                "symbol": it.symbol,
-                "r_addend": it.r_addend,
-                "mark": _MARKS[view.marks.entry(table, place, size)],
-            }
+        size = ENTRY_SIZES[view.sections[table].sh_type]
+        for some in view.image.relocation_blocks(table):
+            marks = _marks_of(view, table, size, some.first, len(some.r_offset))
+            rows = zip(*some[1:], marks)
+            yield [
+                f'{{"table": {table}, "index": {index}, "r_offset": {offset}, {types[kind,]},'
+                f' "symbol": {symbol}, "r_addend": {addend}, "mark": {encoded(_MARKS[mark])}}}'
+                for index, (offset, addend, symbol, kind, mark) in enumerate(rows, some.first)
+            ]
 
 
 def size_record(view: View) -> Record:
@@ -238,27 +297,32 @@ def size_record(view: View) -> Record:
     return {**every, "mark": _MARKS[view.marks.of_all]}
 
 
-def with_tables(view: View, symbols: bool, relocations: bool, sizes: bool) -> Record:
-    """The object of a file, with the large tables that are asked for."""
-    record = file_record(view)
-    if view.has_header:
-        if symbols:
-            record["symbols"] = list(symbol_records(view))
-        if relocations:
-            record["relocations"] = list(relocation_records(view))
-        if sizes:
-            record["sizes"] = size_record(view)
-    return record
+def _large_tables(view: View, symbols: bool, relocations: bool) -> list[tuple[str, Texts]]:
+    """Those that are asked for, and what an entry of each is called."""
+    found = []
+    if view.has_header and symbols:
+        found.append(("symbol", symbol_texts(view)))
+    if view.has_header and relocations:
+        found.append(("relocation", relocation_texts(view)))
+    return found
+
+
+def _sizes(view: View, is_asked: bool) -> Fields:
+    if is_asked and view.has_header:
+        yield "sizes", size_record(view)
+
+
+def pieces(view: View, symbols: bool, relocations: bool, sizes: bool) -> Iterator[str]:
+    """The object of a file in a line, with the large tables that are asked for."""
+    tables = ((f"{name}s", it) for name, it in _large_tables(view, symbols, relocations))
+    yield from _object(itertools.chain(_fields(view), tables, _sizes(view, sizes)))
 
 
 def lines(view: View, symbols: bool, relocations: bool, sizes: bool) -> Iterator[str]:
     """The object of a file in a line, and a line for each entry of the large tables."""
-    yield encoded({"record": "file", **with_tables(view, False, False, sizes)})
-    if not view.has_header:
-        return
-    if symbols:
-        for it in symbol_records(view):
-            yield encoded({"record": "symbol", **_path(view), **it})
-    if relocations:
-        for it in relocation_records(view):
-            yield encoded({"record": "relocation", **_path(view), **it})
+    own = itertools.chain([("record", "file")], _fields(view), _sizes(view, sizes))
+    yield from _object(own)
+    for name, every in _large_tables(view, symbols, relocations):
+        front = encoded({"record": name, **_path(view)})[:-1]
+        for some in every:
+            yield "".join(f"{front}, {it[1:]}\n" for it in some)

@@ -3,43 +3,35 @@
 from __future__ import annotations
 
 from collections.abc import Iterator
-from enum import IntEnum
 
-from elfmap._names import DYNAMIC_TAGS, SEGMENT_TYPES
+from elfmap._names import (
+    DYNAMIC_TAGS,
+    SECTION_FLAGS,
+    SEGMENT_FLAGS,
+    SEGMENT_TYPES,
+    SYMBOL_BINDINGS,
+    SYMBOL_TYPES,
+)
 from elfmap._rules import RULES
 from elfmap._words import printable
-from elfmap.constants import DT, PT, STB, STT, STV
+from elfmap.constants import DT, ET, STV
 
-FILE_TYPES = {
-    0: "file of no type",
-    1: "relocatable file",
-    2: "executable",
-    3: "shared object or position-independent executable",
-    4: "core file",
+FILES: dict[int, str] = {
+    ET.NONE: "file of no type",
+    ET.REL: "relocatable file",
+    ET.EXEC: "executable",
+    ET.DYN: "shared object or position-independent executable",
+    ET.CORE: "core file",
 }
-# The letters of flags, as readelf prints them.
-SECTION_FLAGS = {
-    0x1: "W",
-    0x2: "A",
-    0x4: "X",
-    0x10: "M",
-    0x20: "S",
-    0x40: "I",
-    0x80: "L",
-    0x100: "O",
-    0x200: "G",
-    0x400: "T",
-    0x800: "C",
-}
+# As numbers, which are quicker than the members of an enum.
+SECTION_LETTERS = {int(bit): letter for bit, letter in SECTION_FLAGS.items()}
+SEGMENT_LETTERS = {int(bit): letter for bit, letter in SEGMENT_FLAGS.items()}
 SECTION_KEY = (
     "W write, A alloc, X execute, M merge, S strings, I info link, L link order, O OS, G group, T"
     " TLS, C compressed"
 )
-SEGMENT_FLAGS = {4: "R", 2: "W", 1: "X"}
 _GNU_NOTES = {1: "ABI tag", 2: "hardware", 3: "build id", 4: "gold version", 5: "properties"}
 _GNU = b"GNU"
-# Tags whose value is the offset of a string.
-STRING_TAGS = (DT.NEEDED, DT.SONAME, DT.RPATH, DT.RUNPATH)
 # Tags whose value is a number, and no address.
 _NUMBER_TAGS = {
     *(DT.PLTRELSZ, DT.RELASZ, DT.RELAENT, DT.STRSZ, DT.SYMENT, DT.RELSZ, DT.RELENT),
@@ -48,14 +40,9 @@ _NUMBER_TAGS = {
 }
 
 
-def _name(kind: type[IntEnum], number: int, others: dict[int, str]) -> str:
-    if number in others:
-        return others[number]
-    try:
-        return kind(number).name
-    except ValueError:
-        # A tag of a dynamic array has a sign.
-        return hex(number % 2**64)
+def _name(names: dict[int, str], number: int) -> str:
+    # A tag of a dynamic array has a sign.
+    return names.get(number) or hex(number % 2**64)
 
 
 def flags_words(flags: int, letters: dict[int, str]) -> str:
@@ -66,11 +53,11 @@ def flags_words(flags: int, letters: dict[int, str]) -> str:
 
 
 def segment_type(number: int) -> str:
-    return _name(PT, number, SEGMENT_TYPES)
+    return _name(SEGMENT_TYPES, number)
 
 
 def dynamic_tag(number: int) -> str:
-    return _name(DT, number, DYNAMIC_TAGS)
+    return _name(DYNAMIC_TAGS, number)
 
 
 def dynamic_value(tag: int, value: int) -> str:
@@ -78,11 +65,11 @@ def dynamic_value(tag: int, value: int) -> str:
 
 
 def symbol_type(number: int) -> str:
-    return _name(STT, number, {10: "GNU_IFUNC"})
+    return _name(SYMBOL_TYPES, number)
 
 
 def symbol_binding(number: int) -> str:
-    return _name(STB, number, {10: "GNU_UNIQUE"})
+    return _name(SYMBOL_BINDINGS, number)
 
 
 def symbol_visibility(other: int) -> str:

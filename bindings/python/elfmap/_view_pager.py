@@ -6,16 +6,20 @@ The pager is what ELFMAP_PAGER or PAGER says, or less. None is used if that is e
 from __future__ import annotations
 
 import os
-import shutil
-import subprocess
 from contextlib import suppress
-from typing import BinaryIO, Optional
+from typing import TYPE_CHECKING, BinaryIO, Optional
+
+if TYPE_CHECKING:
+    import subprocess
 
 
 def pager_command(is_wanted: bool) -> Optional[str]:
     """The command of the pager; None where there is none to be used."""
     if not is_wanted or not os.isatty(1) or os.environ.get("TERM", "dumb") == "dumb":
         return None
+    # Most screens go to a pipe or a file, and start without these modules.
+    import shutil
+
     found = os.environ.get("ELFMAP_PAGER", os.environ.get("PAGER", "less"))
     if found in ("", "cat") or found == "less" and not shutil.which("less"):
         return None
@@ -33,6 +37,8 @@ class Paged:
         if not self._command:
             self._out: BinaryIO = open(1, "wb", closefd=False)
             return self._out
+        import subprocess
+
         # less ends where all fits on a screen, keeps colours, and leaves the text there.
         own = {"LESS": "FRX", "LV": "-c", **os.environ}
         self._process = subprocess.Popen(

@@ -9,6 +9,7 @@ from collections.abc import Iterable, Iterator, Sequence
 from typing import NamedTuple
 
 from elfmap._view_faults import BROKEN, DOUBTFUL
+from elfmap._view_tables import AT_ONCE
 
 _CODES = {
     "bold": "1",
@@ -30,9 +31,8 @@ _CODES = {
 LEGEND = f"{BROKEN} breaks a rule   {DOUBTFUL} depends on what breaks one, or is untested due to it"
 # A column of names is not cut shorter.
 _LEAST_NAME = 12
-# The rows of a long table are laid out so many at once.
-_ROWS_AT_ONCE = 4096
 _BLANKS = "  "
+_CUT = "…"
 
 
 class Cell(NamedTuple):
@@ -70,7 +70,7 @@ def cut(words: str, most: int) -> str:
         return words
     while words and width_of(words) > max(most - 1, 0):
         words = words[:-1]
-    return f"{words}…"
+    return words + _CUT
 
 
 class Screen:
@@ -117,57 +117,95 @@ class Screen:
 
     def table(self, columns: Sequence[Column], rows: Iterable[Sequence[Cell]]) -> Iterator[str]:
         """A table: its titles, and its rows."""
-        widths = [width_of(it.title) for it in columns]
         every = iter(rows)
-        is_first = True
-        while True:
-            some = list(itertools.islice(every, _ROWS_AT_ONCE))
-            if not some:
-                return
-            for row in some:
-                widths = [max(old, width_of(it.shown)) for old, it in zip(widths, row)]
-            kept = self._kept(columns, widths, some)
-            if is_first:
-                titles = [Cell(it.title, "", "dim") for it in columns]
-                yield self._row(columns, titles, widths, kept)
-            is_first = False
-            yield from (self._row(columns, row, widths, kept) for row in some)
+        table = Table(self, columns)
+        while some := list(itertools.islice(every, AT_ONCE)):
+            yield from table.lines(some)
 
-    def _kept(
-        self, columns: Sequence[Column], widths: Sequence[int], rows: Sequence[Sequence[Cell]]
-    ) -> list[int]:
-        """The columns that fit. One with a value that breaks a rule is never left out."""
-        kept = list(range(len(columns)))
+
+class Table:
+    """A table that is laid out some rows at a time, each time as wide as the rows so far."""
+
+    def __init__(self, screen: Screen, columns: Sequence[Column]) -> None:
+        self._screen = screen
+        self._columns = columns
+        self._last = len(columns) - 1
+        self._widths = [width_of(it.title) for it in columns]
+        self._is_first = True
+
+    def lines(self, rows: Sequence[Sequence[Cell]]) -> Iterator[str]:
+        """The next rows, and the titles above the first ones."""
+        if any(it.mark or it.style for row in rows for it in row):
+            yield from self.cell_lines(rows)
+        else:
+            yield from self.plain_lines([[it.words for it in column] for column in zip(*rows)])
+
+    def cell_lines(self, rows: Sequence[Sequence[Cell]]) -> Iterator[str]:
+        """These lines, one by one."""
+        for row in rows:
+            self._widths = [max(old, width_of(it.shown)) for old, it in zip(self._widths, row)]
         marked = {k for row in rows for k, it in enumerate(row) if it.mark == BROKEN}
-        last = len(columns) - 1
-        while self.width:
-            needed = sum(widths[k] + len(_BLANKS) for k in kept if k != last)
-            others = [k for k in kept if columns[k].rank and k not in marked and k != last]
-            if needed + min(widths[last], _LEAST_NAME) <= self.width - len(_BLANKS) or not others:
+        kept = self._kept(marked)
+        left = self._left(kept)
+        yield from self._titles(kept)
+        yield from (self._row(row, kept, left) for row in rows)
+
+    def plain_lines(self, words: Sequence[Sequence[str]]) -> Iterator[str]:
+        """The same of rows without marks and colours: of each column all words. Lines come
+        together."""
+        # Letters of ASCII take a place each, and so does the end of a name that is cut.
+        if not all("".join(it).replace(_CUT, "").isascii() for it in words):
+            yield from self.cell_lines([list(map(Cell, row)) for row in zip(*words)])
+            return
+        longest = (max(map(len, it), default=0) for it in words)
+        self._widths = [max(old, new) for old, new in zip(self._widths, longest)]
+        kept = self._kept(set())
+        yield from self._titles(kept)
+        shown = [words[k] for k in kept]
+        if self._screen.width:
+            most = max(self._left(kept), _LEAST_NAME)
+            shown[-1] = [cut(it, most) for it in shown[-1]]
+        # The last column has names.
+        pattern = _BLANKS + _BLANKS.join(
+            f"%{self._widths[k] if self._columns[k].is_number else -self._widths[k]}s"
+            for k in kept[:-1]
+        )
+        rows = map(f"{pattern}{_BLANKS}%s".__mod__, zip(*shown))
+        yield "\n".join(map(str.rstrip, rows))
+
+    def _titles(self, kept: Sequence[int]) -> Iterator[str]:
+        if self._is_first:
+            titles = [Cell(it.title, "", "dim") for it in self._columns]
+            yield self._row(titles, kept, self._left(kept))
+        self._is_first = False
+
+    def _left(self, kept: Sequence[int]) -> int:
+        """How many places the last column has."""
+        width = self._screen.width - len(_BLANKS)
+        return width - sum(self._widths[k] + len(_BLANKS) for k in kept if k != self._last)
+
+    def _kept(self, marked: set[int]) -> list[int]:
+        """The columns that fit. One with a value that breaks a rule is never left out."""
+        kept = list(range(len(self._columns)))
+        last = self._last
+        while self._screen.width:
+            others = [k for k in kept if self._columns[k].rank and k not in marked and k != last]
+            if min(self._widths[last], _LEAST_NAME) <= self._left(kept) or not others:
                 break
-            kept.remove(max(others, key=lambda k: columns[k].rank))
+            kept.remove(max(others, key=lambda k: self._columns[k].rank))
         return kept
 
-    def _row(
-        self,
-        columns: Sequence[Column],
-        row: Sequence[Cell],
-        widths: Sequence[int],
-        kept: Sequence[int],
-    ) -> str:
+    def _row(self, row: Sequence[Cell], kept: Sequence[int], left: int) -> str:
         pieces = []
-        left = self.width - len(_BLANKS)
+        screen = self._screen
         for k in kept:
             it = row[k]
             words = it.shown
-            if k == len(columns) - 1:
+            if k == self._last:
                 most = max(left, _LEAST_NAME) - width_of(it.mark)
-                words = (cut(it.words, most) if self.width else it.words) + it.mark
-            blanks = " " * (widths[k] - width_of(words))
-            painted = self.paint(words, it.mark or it.style) if words else ""
-            is_last = k == kept[-1]
-            pieces.append(
-                blanks + painted if columns[k].is_number else painted + blanks * (not is_last)
-            )
-            left -= widths[k] + len(_BLANKS)
+                words = (cut(it.words, most) if screen.width else it.words) + it.mark
+            blanks = " " * (self._widths[k] - width_of(words))
+            painted = screen.paint(words, it.mark or it.style) if words else ""
+            is_left = not self._columns[k].is_number
+            pieces.append(painted + blanks * (k != kept[-1]) if is_left else blanks + painted)
         return (_BLANKS + _BLANKS.join(pieces)).rstrip()

@@ -11,7 +11,7 @@ from typing import NamedTuple
 
 from elfmap._view_demangle import Demangler
 from elfmap._view_image import Extent, View
-from elfmap._view_names import SEGMENT_FLAGS, flags_words
+from elfmap._view_names import SEGMENT_LETTERS, flags_words
 from elfmap._view_screen import Cell, Column, Screen
 from elfmap.constants import ET, SHF, SHT, STT
 
@@ -72,7 +72,7 @@ def by_segment(view: View) -> list[Size]:
         own = max(end - start, 0)
         at = max(at, end)
         loaded += own
-        name = f"LOAD {index} {flags_words(it.p_flags, SEGMENT_FLAGS)}"
+        name = f"LOAD {index} {flags_words(it.p_flags, SEGMENT_LETTERS)}"
         sizes.append(Size(name, own, it.p_memsz))
     return [*_added(sizes), Size("[not loaded]", view.size - loaded, 0)]
 
@@ -113,8 +113,8 @@ def _places(view: View) -> dict[int, list[Place]]:
     for table in view.symbol_tables:
         for symbol in view.symbols(table):
             it = symbol.it
-            is_there = 0 < it.section < len(view.sections) and it.st_size
-            if not is_there or it.symbol_type in _NO_PLACES:
+            has_bytes = view.is_in_section(it) and it.st_size
+            if not has_bytes or it.symbol_type in _NO_PLACES:
                 continue
             base = 0 if is_relocatable else view.sections[it.section].sh_addr
             start = it.st_value - base

@@ -6,15 +6,15 @@ import heapq
 import os
 from collections.abc import Iterator
 
-from elfmap._hints import hints
 from elfmap._names import machine_words
 from elfmap._origin import origin_of
 from elfmap._view_bar import bar_lines
 from elfmap._view_demangle import Demangler
+from elfmap._view_faults import Fault
 from elfmap._view_filters import Filters
 from elfmap._view_headers import load_lines, section_lines, segment_lines
 from elfmap._view_image import MOST_LETTERS, Symbol, View
-from elfmap._view_names import FILE_TYPES, rule_words
+from elfmap._view_names import FILES, rule_words
 from elfmap._view_screen import LEGEND, Cell, Column, Screen, cut
 from elfmap._words import explain, found_at, one_line
 from elfmap.constants import ET, SHT
@@ -31,23 +31,36 @@ def fault_lines(view: View, screen: Screen, most: int = 0) -> Iterator[str]:
     """What the file breaks, in words, with the likely causes: of each rule the first fault, and
     where the others are; of a summary so many of these."""
     faults = view.faults.every
+    if not faults:
+        return
+    # Of a sound file no cause is looked for.
+    from elfmap._hints import hints
+
     for rule in dict.fromkeys(it.rule for it in faults):
         first, *others = (it for it in faults if it.rule == rule)
         told = explain(view.words, rule, first.at, first.table).message
         yield from screen.text(f"  ! {rule_words(rule)} at {first.at:#x}: {told}", "    ", "red")
         for words in hints(view.words, os.fsdecode(view.path), rule, first.at):
             yield from screen.text(f"    likely cause: {words}", "    ")
+        # What broke a rule at an offset may have been left out, and another part breaks it there.
+        others = list(dict.fromkeys(it for it in others if it != first))
         shown = others[:most] if most else others
         for it in shown:
-            places = found_at(view.words, rule, it.at, it.table)
-            more = f"; {len(places) - _MOST_PLACES} more" if len(places) > _MOST_PLACES else ""
-            words = "; ".join(place.words for place in places[:_MOST_PLACES]) + more
+            words = _also_words(view, it)
             yield from screen.text(f"    also at {it.at:#x}: {words}", "      ", "red")
         if len(shown) < len(others):
             yield f"    … {len(others) - len(shown)} more of this rule: --all"
     if not view.faults.is_complete:
         words = "    the rules after it are not tested: all values depend on what is wrong here"
         yield from screen.text(words, "    ", "yellow")
+
+
+def _also_words(view: View, fault: Fault) -> str:
+    """What is at another offset at which the same rule is broken."""
+    places = found_at(view.words, fault.rule, fault.at, fault.table, _MOST_PLACES)
+    more = f"; {len(places) - _MOST_PLACES} more" if len(places) > _MOST_PLACES else ""
+    table = f"the table in {view.section_name(fault.table)}: " if fault.table is not None else ""
+    return table + "; ".join(it.words for it in places[:_MOST_PLACES]) + more
 
 
 def head_lines(view: View, screen: Screen, most: int = 0) -> Iterator[str]:
@@ -85,14 +98,15 @@ def _facts(view: View) -> Iterator[tuple[str, Cell]]:
     words = view.words
     kind = words.number(16, 2)
     order = "big-endian" if words.order == ">" else "little-endian"
-    name = FILE_TYPES.get(kind, f"file of type {kind}")
+    name = FILES.get(kind, f"file of type {kind}")
     yield "kind", Cell(f"ELF-64 {name}", marks.header("e_type"))
     mark = marks.header("e_machine") or marks.header("the data encoding in e_ident")
     yield "machine", Cell(f"{machine_words(view.machine)}, {order}", mark)
     sections, segments = view.image.counts
-    mark = marks.header("e_shnum") or marks.header("e_phnum") or marks.header("e_shoff")
-    counts = f"{sections} section headers, {segments} program headers"
-    yield "size", Cell(f"{view.size:,} bytes, {counts}", mark)
+    of_sections = marks.header("e_shnum") or marks.of_sections
+    of_segments = marks.header("e_phnum") or marks.of_segments
+    counts = f"{sections} section headers{of_sections}, {segments} program headers{of_segments}"
+    yield "size", Cell(f"{view.size:,} bytes, {counts}", "", of_sections or of_segments)
     entry = words.number(24, 8)
     if entry or kind != ET.REL:
         mark = marks.header("e_entry")
@@ -153,11 +167,7 @@ def largest_lines(view: View, screen: Screen, demangler: Demangler) -> Iterator[
         (it for it in range(len(view.sections)) if view.sections[it].sh_type != SHT.NULL),
         key=lambda it: (view.sections[it].sh_size, -it),
     )
-    every = (it for table in view.symbol_tables for it in view.symbols(table))
-    sized = (it for it in every if it.it.st_size and 0 < it.it.section < len(view.sections))
-    symbols = heapq.nlargest(
-        _MOST_LARGEST, sized, key=lambda it: (it.it.st_size, -it.table, -it.position)
-    )
+    symbols = view.largest_symbols(_MOST_LARGEST)
     rows = [_largest_section(view, it) for it in sections if view.sections[it].sh_size]
     demangler.learn(view.symbol_name(it.it) for it in symbols)
     rows += [_largest_symbol(view, it, demangler) for it in symbols]

@@ -11,13 +11,14 @@ import ctypes
 import itertools
 import re
 import struct
-from collections.abc import Iterable, Iterator
+from collections.abc import Collection, Iterable, Iterator
 from functools import cached_property
 from typing import NamedTuple, Optional, Protocol
 
 from elfmap import _declared
 from elfmap._names import relocation_type, section_type
 from elfmap._rules import RULES
+from elfmap.constants import SHN, SHT
 
 
 class Bytes(Protocol):
@@ -60,19 +61,19 @@ DYNAMIC = _layout(_declared.Dynamic)
 NOTE: Layout = {"namesz": (0, 4), "descsz": (4, 4), "type": (8, 4)}
 _IN_HEX = "flags addr off align entry value st_info r_info filesz memsz shndx".split()
 
-NULL = 0
-SYMTAB = 2
-STRTAB = 3
-RELA = 4
-HASH = 5
-DYNAMIC_SECTION = 6
-NOTE_SECTION = 7
-NOBITS = 8
-REL = 9
-DYNSYM = 11
-GROUP = 17
-SYMTAB_SHNDX = 18
-XINDEX = 0xFFFF
+NULL = SHT.NULL.value
+SYMTAB = SHT.SYMTAB.value
+STRTAB = SHT.STRTAB.value
+RELA = SHT.RELA.value
+HASH = SHT.HASH.value
+DYNAMIC_SECTION = SHT.DYNAMIC.value
+NOTE_SECTION = SHT.NOTE.value
+NOBITS = SHT.NOBITS.value
+REL = SHT.REL.value
+DYNSYM = SHT.DYNSYM.value
+GROUP = SHT.GROUP.value
+SYMTAB_SHNDX = SHT.SYMTAB_SHNDX.value
+XINDEX = SHN.XINDEX.value
 ENTRY_SIZES = {
     SYMTAB: 24,
     DYNSYM: 24,
@@ -96,6 +97,7 @@ PARTS = {
     "segment": {25, 26, 27, 28, 29},
     "content": {31, 41, 47, 48, 51, 52, 54, 56, 58, 59, 60, 61, 62, 64, 66, 67, 68, 69, 75, 77},
 }
+KINDS = tuple(PARTS)
 SHARED_BYTE = 33
 # So many parts that share a byte are named.
 MOST_OWNERS = 16
@@ -141,6 +143,8 @@ class Words:
             segments = self.section(0, "sh_info")
         self.segments = min(segments, len(data) // 56)
         self._index_tables: Optional[dict[int, int]] = None
+        # Where string tables are, of which names were asked for.
+        self._strings: dict[int, tuple[int, int]] = {}
 
     def number(self, at: int, width: int) -> int:
         found = self.data[at : at + width].ljust(width, b"\0") if 0 <= at < len(self.data) else b""
@@ -191,6 +195,11 @@ class Words:
         return sorted(found)
 
     @cached_property
+    def _content_of(self) -> dict[int, tuple[int, int]]:
+        """Where the content of a section begins and ends, by its index."""
+        return {index: (start, end) for start, end, index in self._contents}
+
+    @cached_property
     def _ends(self) -> list[int]:
         """The highest end of a content and all before it: where they overlap it may be that of an
         earlier one."""
@@ -214,7 +223,9 @@ class Words:
 
     def name(self, table: int, at: int, most: int = LONGEST_NAME) -> bytes:
         """The name at an offset of a string table, or so many bytes of it."""
-        start, end = self.content(table)
+        if table not in self._strings:
+            self._strings[table] = self.content(table)
+        start, end = self._strings[table]
         first = start + at
         if not 0 < table < self.count or first >= end:
             return b""
@@ -320,36 +331,47 @@ class Words:
         place = f"the content of {self.section_words(index)} [{start:#x}, {end:#x})"
         return f"{place}: {entry_words(self, index, at)}"
 
-    def places(self, at: int, near: Iterable[int] = ()) -> Iterator[Place]:
-        """All that holds an offset."""
-        if at < 64:
+    def places(
+        self,
+        at: int,
+        near: Iterable[int] = (),
+        kinds: Collection[str] = KINDS,
+        most: Optional[int] = None,
+    ) -> Iterator[Place]:
+        """All of these kinds that holds an offset. The contents after so many are without words."""
+        if at < 64 and "header" in kinds:
             yield Place("header", None, f"the header: {self.field_words(HEADER, 0, at)}")
-        if self.table <= at < self.table + 64 * self.count:
+        if self.table <= at < self.table + 64 * self.count and "section" in kinds:
             index = (at - self.table) // 64
             field = self.field_words(SECTION, self.table + 64 * index, at)
             yield Place("section", index, f"{self.header_words(index)}: {field}")
         table = self.number(32, 8)
-        if table and table <= at < table + 56 * self.segments:
+        if table and table <= at < table + 56 * self.segments and "segment" in kinds:
             index = (at - table) // 56
             field = self.field_words(SEGMENT, table + 56 * index, at)
             yield Place("segment", None, f"program header {index}: {field}")
-        for index in self.holding(at, near):
-            yield Place("content", index, self.content_words(index, at))
+        for count, index in enumerate(self.holding(at, near) if "content" in kinds else ()):
+            has_words = most is None or count < most
+            yield Place("content", index, self.content_words(index, at) if has_words else "")
 
-    def owners(self, at: int) -> Iterator[tuple[Optional[int], str, int, int]]:
-        """The parts that a byte belongs to: of which section, or else in words, and from where to
-        where."""
+    def tables_with(self, at: int) -> list[tuple[str, int, int]]:
+        """Those of the header and the two tables that have a byte, and from where to where each
+        is."""
         table = self.number(32, 8)
         parts = [
             ("the ELF header", 0, 64),
             ("the section header table", self.table, self.table + 64 * self.count),
             ("the program header table", table, table + 56 * self.segments if table else 0),
         ]
-        for words, start, end in parts:
-            if start <= at < end:
-                yield None, words, start, end
+        return [it for it in parts if it[1] <= at < it[2]]
+
+    def owners(self, at: int) -> Iterator[tuple[Optional[int], str, int, int]]:
+        """The parts that a byte belongs to: of which section, or else in words, and from where to
+        where."""
+        for words, start, end in self.tables_with(at):
+            yield None, words, start, end
         for index in self.holding(at):
-            yield index, "", *self.content(index)
+            yield index, "", *self._content_of[index]
 
 
 def printable(name: bytes, most: Optional[int] = None) -> str:
@@ -516,14 +538,20 @@ def explain(file: Words, rule: int, at: int, table: Optional[int] = None) -> Tol
     return Told(f"{'; '.join(words)}; {reason(rule)}; {RULES[rule][2]}", indexes)
 
 
-def found_at(file: Words, rule: int, at: int, table: Optional[int] = None) -> list[Place]:
-    """What holds the offset, and of it that which the rule looks at."""
+def found_at(
+    file: Words, rule: int, at: int, table: Optional[int] = None, most: Optional[int] = None
+) -> list[Place]:
+    """What holds the offset, and of it that which the rule looks at. The contents after so many are
+    without words."""
     if at >= len(file.data):
         return [Place("end", None, f"the file ends there, with {len(file.data)} bytes")]
-    found = list(file.places(at, file.related(table) if table is not None else ()))
-    wanted = [kind for kind, rules in PARTS.items() if rule in rules] or list(PARTS)
-    looked_at = [it for it in found if it.kind in wanted]
-    return looked_at or found or [Place("gap", None, "in no part of the file")]
+    near = file.related(table) if table is not None else []
+    wanted = [kind for kind, rules in PARTS.items() if rule in rules]
+    for kinds in (wanted, KINDS):
+        found = list(file.places(at, near, kinds, most))
+        if found:
+            return found
+    return [Place("gap", None, "in no part of the file")]
 
 
 def _shared_byte(file: Words, at: int) -> Told:

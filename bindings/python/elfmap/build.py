@@ -14,8 +14,8 @@ import tempfile
 from pathlib import Path
 from typing import Optional
 
-NAME = "libelfmap.so"
-SHARED = "libelfmap.so.0"
+from elfmap._library import NAME
+
 ARCHIVE = "libelfmap.a"
 PACKAGE = Path(__file__).resolve().parent
 REPOSITORY = PACKAGE.parents[2]
@@ -35,15 +35,6 @@ def archive() -> Path:
         if path.is_file():
             return path
     raise FileNotFoundError(f"{ARCHIVE} is not in {' or '.join(map(str, folders))}")
-
-
-def ready() -> Optional[Path]:
-    """The shared library that is built: in the named folder, or else in the package or the
-    release."""
-    folder = named_folder()
-    folders = [folder] if folder else [PACKAGE, REPOSITORY / "lib"]
-    paths = [folder / name for folder in folders for name in (NAME, SHARED)]
-    return next((path for path in paths if path.is_file()), None)
 
 
 def cached() -> Optional[Path]:

@@ -58,6 +58,7 @@ from elfmap._words import (
     original_path,
     printable,
 )
+from elfmap.constants import ET
 
 PROGRAM = "elfmap-explain"
 WIDTH = 130
@@ -77,7 +78,7 @@ _LONGEST_RECORD = 1 << 20
 _CHECKED = (
     "checked here by the rules of images and tables, and relocatable files by those of objects: "
 )
-_RELOCATABLE = 1
+_RELOCATABLE = ET.REL.value
 
 
 class Finding(NamedTuple):

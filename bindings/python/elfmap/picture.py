@@ -25,7 +25,8 @@ from xml.sax.saxutils import escape
 import elfmap
 from elfmap import __version__
 from elfmap._commands import FOUND, UNREADABLE, Parser, complain, run_script
-from elfmap._names import MACHINES
+from elfmap._kinds import TYPES, colour_of_flags, colour_of_type
+from elfmap._names import FILE_TYPES, MACHINES
 from elfmap._sources import LONGEST, Unreadable, opened
 from elfmap._words import one_line, printable
 
@@ -45,26 +46,6 @@ COLUMNS = (
     ("holds", 520, "start"),
 )
 
-# What a section holds, by its type; of type PROGBITS and its like, by its flags.
-TYPES = {
-    2: "symbols",
-    3: "strings",
-    4: "relocations",
-    5: "hash table",
-    6: "dynamic array",
-    7: "notes",
-    9: "relocations",
-    11: "symbols",
-    14: "addresses",
-    15: "addresses",
-    17: "group",
-    18: "indexes",
-}
-RELOCATION_TYPES = (4, 9)
-SYMBOL_TYPES = (2, 3, 5, 11, 18)
-WRITE = 1
-ALLOC = 2
-EXECINSTR = 4
 COLOURS = {
     "header and tables": "#4c566a",
     "code": "#c0504d",
@@ -85,7 +66,6 @@ HATCHES = (
     ' patternTransform="rotate(45)"><rect width="5" height="5" fill="#fff3d6"/><rect width="2"'
     ' height="5" fill="#d09a20"/></pattern>'
 )
-FILE_TYPES = {0: "no type", 1: "relocatable", 2: "executable", 3: "shared", 4: "core"}
 # How the parts are called that are no contents and no gaps.
 TITLES = {"header": "header", "segments": "program table", "sections": "section table"}
 # The flags of a segment.
@@ -129,24 +109,6 @@ def content(words: list[str]) -> tuple[str, str, str]:
         return name, TYPES[kind], colour_of_type(kind)
     colour = colour_of_flags(flags)
     return name, colour, colour
-
-
-def colour_of_type(kind: int) -> str:
-    """The colour of a section of one of the types that say what it holds."""
-    if kind in RELOCATION_TYPES:
-        return "relocations"
-    if kind in SYMBOL_TYPES:
-        return "symbols and strings"
-    return "other"
-
-
-def colour_of_flags(flags: int) -> str:
-    """The colour of a section of any other type, which says also what it holds."""
-    if flags & EXECINSTR:
-        return "code"
-    if flags & WRITE:
-        return "data"
-    return "constants" if flags & ALLOC else "other"
 
 
 def gap(front: str, length: int) -> str:

@@ -12,14 +12,12 @@ and 3 if something can't be read.
 from __future__ import annotations
 
 import argparse
-import json
 import os
-import shutil
 from collections.abc import Callable, Iterator, Sequence
 from typing import Optional
 
 from elfmap import __version__, _colors
-from elfmap._commands import DONE, USAGE, Parser, complain, number_of, run_script
+from elfmap._commands import USAGE, Parser, complain, number_of, run_script, terminal_width
 from elfmap._findings import BadWord
 from elfmap._view_bytes import hex_lines, string_lines
 from elfmap._view_demangle import Demangler
@@ -35,9 +33,7 @@ from elfmap._view_files import PROGRAM, Reader
 from elfmap._view_filters import SORTS, Filters
 from elfmap._view_headers import header_lines, part_lines, section_lines, segment_lines
 from elfmap._view_image import MOST_LETTERS, View
-from elfmap._view_json import encoded, lines as json_lines, with_tables
 from elfmap._view_pager import Paged, pager_command
-from elfmap._view_schema import SCHEMA
 from elfmap._view_screen import Screen
 from elfmap._view_search import at_lines, find_lines
 from elfmap._view_sizes import diff_lines, size_lines
@@ -61,6 +57,8 @@ _BLOCKS = (
 # What `--all` prints is of these.
 _OF_ALL = [it for it, _ in _BLOCKS if it != "sizes"]
 _LEAST_WIDTH = 20
+# So many letters are written at once.
+_LETTERS_AT_ONCE = 1 << 16
 
 
 def _width(word: str) -> int:
@@ -157,7 +155,7 @@ def _screen_of(options: argparse.Namespace) -> Screen:
     width = options.width
     if width is None:
         is_known = os.environ.get("COLUMNS", "").isdecimal() or os.isatty(1)
-        width = max(shutil.get_terminal_size().columns, _LEAST_WIDTH) if is_known else 0
+        width = max(terminal_width(), _LEAST_WIDTH) if is_known else 0
     return Screen(width, _colors.are_wanted(options.color))
 
 
@@ -177,19 +175,38 @@ class Run:
     def status(self) -> int:
         return self._reader.status()
 
-    def lines(self) -> Iterator[str]:
+    def pieces(self) -> Iterator[str]:
         """All that is printed."""
+        if self._options.json_schema or self._options.json or self._options.jsonl:
+            yield from self._json()
+        else:
+            yield from (f"{it}\n" for it in self._lines())
+
+    def _json(self) -> Iterator[str]:
+        # A screen starts without these modules.
+        import json
+
+        from elfmap import _view_json
+        from elfmap._view_schema import SCHEMA
+
         options = self._options
         if options.json_schema:
-            yield json.dumps(SCHEMA, indent=1)
-        elif options.find is not None:
+            yield json.dumps(SCHEMA, indent=1) + "\n"
+            return
+        asked = options.symbols or options.all, options.relocations or options.all, options.sizes
+        for view in self._views():
+            yield from (_view_json.lines if options.jsonl else _view_json.pieces)(view, *asked)
+
+    def _lines(self) -> Iterator[str]:
+        options = self._options
+        if options.find is not None:
             yield from self._found(options.find)
         elif options.diff:
             yield from self._differences()
         else:
             is_first = True
             for view in self._views():
-                if not is_first and not (options.json or options.jsonl):
+                if not is_first:
                     yield ""
                 is_first = False
                 yield from self._file_lines(view)
@@ -217,12 +234,7 @@ class Run:
 
     def _file_lines(self, view: View) -> Iterator[str]:
         options = self._options
-        asked = options.symbols or options.all, options.relocations or options.all, options.sizes
-        if options.json:
-            yield encoded(with_tables(view, *asked))
-        elif options.jsonl:
-            yield from json_lines(view, *asked)
-        elif self._chosen() or options.strings is not None or options.hex is not None or options.at:
+        if self._chosen() or options.strings is not None or options.hex is not None or options.at:
             yield from self._parts_of(view)
         else:
             yield from summary_lines(view, self._screen, self._filters, self._demangler)
@@ -293,9 +305,27 @@ def _write(options: argparse.Namespace) -> int:
     """Writes what is asked for, and returns the status."""
     run = Run(options)
     with Paged(pager_command(not options.no_pager)) as out:
-        for line in run.lines():
-            out.write(f"{line}\n".encode("utf-8", "backslashreplace"))
+        for it in _gathered(run.pieces()):
+            out.write(it.encode("utf-8", "backslashreplace"))
     return run.status()
+
+
+def _gathered(pieces: Iterator[str]) -> Iterator[str]:
+    """These pieces, many together; those before an error too."""
+    some: list[str] = []
+    letters = 0
+    try:
+        for it in pieces:
+            some.append(it)
+            letters += len(it)
+            if letters >= _LETTERS_AT_ONCE:
+                yield "".join(some)
+                some = []
+                letters = 0
+    except BadWord:
+        yield "".join(some)
+        raise
+    yield "".join(some)
 
 
 def main(words: Optional[Sequence[str]] = None) -> int:

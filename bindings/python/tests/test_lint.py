@@ -400,6 +400,12 @@ class DepthTest(Case):
                 status, out, said = self.lint(word, "good.o")
             self.assertEqual((status, out), (3, b"0 findings in 0 of 0 ELF files; 1 unreadable\n"))
             self.assertEqual(said, b"elfmap-lint: good.o: there is no memory for its tables\n")
+        self.put(thread__o=bytes(Made((b".tdata", 1, bytes(8), dict(flags=0x406))).data))
+        call = "elfmap_link_place"
+        with mock.patch.object(_library.library(), call, return_value=_declared.NO_MEMORY):
+            status, _, said = self.lint("--object", "thread.o")
+        self.assertEqual(status, 3)
+        self.assertEqual(said, b"elfmap-lint: thread.o: there is no memory for its tables\n")
 
     def test_an_index_table_of_a_long_file(self):
         """Symbol 1 has an index of its own, so its word has to be 0."""

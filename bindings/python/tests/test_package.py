@@ -1,6 +1,7 @@
 """What a caller of the package sees beside its answers: pickled records, closed files, constants,
 columns, help and types."""
 
+import array
 import ast
 import copy
 import ctypes
@@ -21,7 +22,7 @@ from pathlib import Path
 from unittest import mock
 
 import elfmap
-from elfmap import _library, _link_words, build, constants
+from elfmap import _declared, _library, _link_places, build, constants
 
 from tests.made import (
     GOOD,
@@ -233,6 +234,58 @@ class NotLinkedTest(unittest.TestCase):
                     f"symbol {symbol!r}: the link is refused because " in str(found), bool(symbol)
                 )
 
+    def test_places(self):
+        """Where the record is that the rule is about, and which definition is the first one."""
+        strings = (b".strtab", 3, b"\0local\0", {})
+        made = Made(text(), symbols(3, (1, 0x16, 1)), strings)
+        found = self.refused(bytes(made.data))
+        place = (found.offset, found.symbol, found.first)
+        self.assertEqual(place, (made.starts[2] + 24, b"local", None))
+        made = Made((b".tdata", 1, bytes(8), dict(flags=0x406)))
+        found = self.refused(bytes(made.data))
+        self.assertEqual((found.rule, found.offset, found.symbol), (3, made.table + 64, None))
+        made = Made(text(), symbols(3, *[(1, 0x10, 1)] * 2), strings)
+        other = bytes(Made(text(), symbols(3, (1, 0x20, 1)), strings).data)
+        found = self.refused(other, bytes(made.data))
+        self.assertEqual((found.rule, found.file, found.index), (8, 1, 1))
+        self.assertEqual((found.offset, found.first), (made.starts[2] + 48, (1, 0)))
+        self.assertEqual(pickle.loads(pickle.dumps(found)).first, (1, 0))
+        loaded = (b".text", 1, bytes(8), dict(flags=6))
+        named = symbols(3, (0, 3, 1), (1, 0x10, 1), info=2)
+        for number, symbol in ((2, b"local"), (1, b""), (0, None)):
+            made = Made(loaded, named, strings, relocations(2, number))
+            found = self.refused(bytes(made.data), entry="local")
+            place = (found.rule, found.symbol, found.offset)
+            self.assertEqual(place, (12, symbol, made.starts[4]))
+        found = self.refused(base=1)
+        self.assertEqual((found.symbol, found.offset, found.first), (None, None, None))
+
+    def test_a_definition_that_is_discarded(self):
+        """One in a section of a group that an earlier file has is not the first one."""
+        group = (b".group", 17, struct.pack("<2I", 1, 2), dict(link=3, info=1, entsize=4, align=4))
+        member = (b".text.g", 1, bytes(8), dict(flags=0x206))
+        strings = (b".strtab", 3, b"\0g\0twice\0", {})
+        files = []
+        for rows in ([], [(3, 0x10, 2)]):
+            table = symbols(4, (1, 0, 2), *rows, info=2)
+            files.append(bytes(Made(group, member, table, strings).data))
+        plain = Made((b".text", 1, bytes(8), dict(flags=6)), symbols(3, (3, 0x10, 1)), strings)
+        found = self.refused(*files, bytes(plain.data), bytes(plain.data), entry="twice")
+        self.assertEqual((found.rule, found.file, found.symbol), (8, 3, b"twice"))
+        self.assertEqual(found.first, (2, 0))
+
+    def test_numbers_that_are_no_place(self):
+        """ctypes would take them modulo 2^64, and a rule modulo 2^16."""
+        views = [memoryview(bytes(Made(text(), symbols(3, (0, 3, 1)), (b"", 3, b"", {})).data))]
+        self.assertTrue(_link_places.link_place(views, (6, 0, 0, 0)))
+        for site in (
+            (6 + 2**16, 0, 0, 0),
+            (6, 2**64, 0, 0),
+            (6, 0, 2**64, 0),
+            (6, 0, 0, 2**64),
+        ):
+            self.assertIsNone(_link_places.link_place(views, site))
+
     def test_without_a_symbol(self):
         self.assertEqual(elfmap.NotLinked(9, 0, 0, 0).symbol, None)
         self.assertIn(" in file 0: the link is refused because ", str(elfmap.NotLinked(9, 0, 0, 0)))
@@ -263,11 +316,16 @@ class NotLinkedTest(unittest.TestCase):
         views = [memoryview(made.data)]
         tracemalloc.start()
         self.addCleanup(tracemalloc.stop)
-        self.assertEqual(elfmap._symbol_of(9, 0, 0, 0, views, b""), b"f")
+        outcome = _declared.Outcome(0, 0, 0, 0, 9)
+        self.assertEqual(elfmap._not_linked(outcome, views, b"").symbol, b"f")
         self.assertLess(tracemalloc.get_traced_memory()[1], 1 << 20)
-        lacking = mock.patch.object(_link_words, "refused_symbol", side_effect=MemoryError)
+        lacking = mock.patch.object(_link_places, "link_place", side_effect=MemoryError)
         with lacking:
             self.assertEqual(self.refused(made.data).symbol, None)
+        call = "elfmap_link_place"
+        with mock.patch.object(_library.library(), call, return_value=_declared.NO_MEMORY):
+            found = self.refused(made.data)
+        self.assertEqual((found.rule, found.symbol, found.offset), (9, None, None))
 
 
 class ColumnsTest(unittest.TestCase):
@@ -317,6 +375,23 @@ class ColumnsTest(unittest.TestCase):
             for it in (1, 99, 2**64 + 2, -1):
                 self.assertEqual(file.columns(it), {})
             self.assertTrue(all(memoryview(it).c_contiguous for it in found.values()))
+
+    def test_symbols_without_a_word(self):
+        """A table that breaks a rule has as many numbers as entries, though a symbol has no word in
+        an index table."""
+        made = Made(text(), symbols(3, (1, 0x10, 0xFFFF), (1, 0x20, 1)), (b"", 3, b"\0f\0", {}))
+        file = elfmap.parse(made.data)
+        self.assertEqual([*file.columns(2)["st_shndx"]], [0, 0xFFFF, 1])
+        self.assertEqual([*file.columns(2)["st_info"]], [0, 0x10, 0x20])
+
+    def test_many_entries(self):
+        """More than one call reads."""
+        named = [*range((1 << 15) + 3)]
+        strings = (b".strtab", 3, b"\0f\0", {})
+        made = Made(text(), symbols(3, (1, 0x10, 0)), strings, relocations(2, *named))
+        # As one value: unittest takes minutes to say where two long lists differ.
+        found = elfmap.parse(made.data).columns(4)["symbol"]
+        self.assertEqual(found == array.array("I", named), True)
 
     def test_addends_have_signs(self):
         entries = struct.pack("<QQqQQq", 0, 1 << 32 | 2, -4, 8, 1 << 32 | 2, 2**63 - 1)

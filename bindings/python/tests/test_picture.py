@@ -72,7 +72,7 @@ class Case(FolderCase):
         self.assertEqual({it: texts[texts.index(it) + 1] for it in held}, held)
 
     def test_types_of_files(self):
-        names = ("no type", "relocatable", "executable", "shared", "core")
+        names = ("no type", "relocatable", "executable", "shared object", "core")
         for number, name in (*enumerate(names), (9, "type 9")):
             head = picture.read(HEADER.replace("little 1", f"little {number}").splitlines())[1]
             self.assertEqual(head, f"{name}, EM_X86_64, little-endian")

@@ -542,7 +542,8 @@ class ReadelfTest(Case):
         if shutil.which("c++filt"):
             lines = "\n".join(self.view("--symbols", "--demangle", "g.o"))
             self.assertIn("int twice<int>(int)", lines)
-            self.assertNotIn("int twice<int>(int)", "\n".join(self.view("--symbols", "g.o")))
+            for words in (["--symbols", "g.o"], ["g.o"]):
+                self.assertNotIn("int twice<int>(int)", "\n".join(self.view(*words)))
 
 
 def wrong(value, schema, place="$"):
