@@ -19,13 +19,13 @@ const LOADED_ONLY = "repeating-linear-gradient(45deg, transparent 0 4px, #fff6 4
 const LEGEND = { ...COLOURS, "loaded, in no section": `${LOADED_ONLY}, ${COLOURS.code}` };
 const OWNERS = { [ELFMAP.HEADER]: "the ELF header", [ELFMAP.SECTION_HEADERS]: "the section header table",
     [ELFMAP.PROGRAM_HEADERS]: "the program header table" };
-const KIND_TITLES = { sections: "Sections", segments: "Segments", symbols: "Symbols", relocations: "Relocations", dynamic: "Dynamic", notes: "Notes" };
+const KIND_TITLES = { sections: "Sections", segments: "Segments", symbols: "Symbols", relocations: "Relocations", dynamic: "Dynamic", notes: "Notes", sizes: "Sizes" };
 
 const $ = (id) => document.getElementById(id);
 // `turn` grows with each file, `zooms` with each view of the map, and `rows` with each view of a table: what comes for an older one is not
-// drawn. `is_drawn` is true from when all of a sound file is drawn, but the findings, until the next file comes. `sections` has those
-// sections whose parts were drawn, by their owners.
-const state = { open: null, parts: [], loads: [], range: [0, 0], part: null, kind: "sections", table: 0, row: 0, found: null, shown: -1, at: 0,
+// drawn. `is_drawn` is true from when all of a file that has a map is drawn, but the findings, until the next file comes. `sections` has
+// those sections whose parts were drawn, by their owners. `sizes` is how many rows the table of sizes has.
+const state = { open: null, refused: null, archive: null, sizes: 0, parts: [], loads: [], range: [0, 0], part: null, kind: "sections", table: 0, row: 0, found: null, shown: -1, at: 0,
     marked: [0, 0], turn: 0, zooms: 0, rows: 0, is_drawn: false, sections: new Map() };
 
 // ---- The worker
@@ -92,14 +92,17 @@ function whole_button({ start, len, whose = "this name" }) {
 
 // ---- Opening
 
-async function open_file(file) {
+// Opens a file, which may be the chosen member of an archive.
+async function open_file(file, archive = null) {
     state.turn++;
     forget_file();
+    show_members(archive);
     $("progress").hidden = false;
     $("progress").value = 0;
     say(`Reading ${file.name} …`);
     try {
         state.open = await ask("open", file);
+        if (state.open.archive) return await open_archive(file, state.open.archive);
         await show_file();
         say(`${file.name}: ${counted(file.size, "byte")}`);
         document.title = `${file.name} - elfmap`;
@@ -110,38 +113,53 @@ async function open_file(file) {
     $("progress").hidden = true;
 }
 
+// Shows the first member of an archive.
+async function open_archive(file, members) {
+    $("progress").hidden = true;
+    if (!members.length) return say(`${file.name} is an archive without members that can be read.`);
+    await open_member({ file, members }, 0);
+}
+
 // Nothing of the page is about the file before: neither what is drawn, nor what was typed, nor the name in the chooser.
 function forget_file() {
-    Object.assign(state, { open: null, is_drawn: false, parts: [], loads: [], part: null, kind: "", table: 0, sections: new Map() });
+    Object.assign(state, { open: null, refused: null, sizes: 0, is_drawn: false, parts: [], loads: [], part: null, kind: "", table: 0, sections: new Map() });
     $("main").hidden = true;
     document.title = "elfmap";
-    for (const id of ["memory-words", "bytes-words", "table-words"]) $(id).textContent = "";
+    for (const id of ["memory-words", "bytes-words", "table-words", "map-refused"]) $(id).textContent = "";
     $("offset").value = "";
     clear_filter();
     show_part_name();
 }
 
 async function show_file() {
-    const { fault, parts, file } = state.open;
+    const { fault } = state.open;
+    state.refused = fault ? await ask("refused", fault) : null;
     $("main").hidden = false;
     show_verdict();
-    for (const id of ["map-section", "tables-section"]) $(id).hidden = fault !== null;
+    const has_map = !fault || Boolean(state.refused);
+    for (const id of ["map-section", "tables-section"]) $(id).hidden = !has_map;
     const { start, length } = fault ? field_at(fault.at) : { start: 0, length: 0 };
-    if (!fault) {
-        state.loads = await loadable_segments();
-        state.parts = parts ? with_segments(await ask("parts", 0, parts), loaded_ranges(state.loads)) : [];
-        await zoom(0, state.open.length);
-        show_memory();
-        show_tabs();
-        $("tables-section").hidden = file.sections + file.segments === 0;
-        await open_table(file.sections ? "sections" : "segments", 0, 0);
-    }
+    if (has_map) await show_map_and_tables();
     await show_bytes(start - start % 16, [start, start + length]);
     document.body.dataset.took = state.open.took.toFixed(1);
-    state.is_drawn = !fault;
+    state.is_drawn = has_map;
     // The window may have changed meanwhile.
     if (state.is_drawn && $("map").clientWidth !== state.width) await redraw_bars();
     if (!fault) await ask("findings").then(show_findings, ({ message }) => { $("findings-words").textContent = `The tables are not checked: ${message}.`; });
+}
+
+async function show_map_and_tables() {
+    const { parts } = state.open;
+    const { sections, segments } = header_counts();
+    state.loads = await loadable_segments();
+    const own = state.refused ? state.refused.lanes[0] : parts ? await ask("parts", 0, parts) : [];
+    state.parts = with_segments(own, loaded_ranges(state.loads));
+    show_refused_words();
+    await zoom(0, state.open.length);
+    show_memory();
+    show_tabs();
+    $("tables-section").hidden = sections + segments === 0;
+    await open_table(sections ? "sections" : "segments", 0, 0);
 }
 
 // ---- The verdict
@@ -228,7 +246,9 @@ async function zoom(from, to) {
     const own = ++state.zooms;
     state.range = [from, Math.max(to, from + 1)];
     state.width = $("map").clientWidth;
-    const owners = new Set(runs_of_parts().filter((it) => it.count === 1).map((it) => it.part.owner).filter((it) => it >= ELFMAP.CONTENTS));
+    const lanes = [state.parts, ...(state.refused?.lanes.slice(1) ?? [])];
+    const runs = lanes.flatMap((it) => runs_of_parts(it));
+    const owners = new Set(runs.filter((it) => it.count === 1).map((it) => it.part.owner).filter((it) => it >= ELFMAP.CONTENTS));
     for (const owner of owners) {
         if (state.sections.has(owner)) continue;
         const [section] = await ask("sections", owner - ELFMAP.CONTENTS, 1);
@@ -242,6 +262,7 @@ async function zoom(from, to) {
 function draw_map() {
     const [from, to] = state.range;
     draw_bar("map", runs_of_parts().map(map_button));
+    draw_refused(runs_of_parts, map_button);
     $("map-scale").replaceChildren(element("span", hex(state.range[0])), element("span", hex(state.range[1])));
     $("legend").replaceChildren(...Object.entries(LEGEND).map(([words, colour]) => element("li", null, {}, coloured(colour), words)));
     show_part_words();
@@ -257,11 +278,11 @@ function coloured(colour) {
 }
 
 // The parts of the range, those too short to be seen in runs, each with its place in points.
-function runs_of_parts() {
+function runs_of_parts(parts = state.parts) {
     const [from, to] = state.range;
     const scale = (state.width || 300) / (to - from);
     const runs = [];
-    for (const [index, part] of state.parts.entries()) {
+    for (const [index, part] of parts.entries()) {
         if (part.start + part.len <= from || part.start >= to) continue;
         const [left, right] = [(Math.max(part.start, from) - from) * scale, (Math.min(part.start + part.len, to) - from) * scale];
         const last = runs.at(-1);
@@ -337,7 +358,8 @@ function map_button(run) {
     const told = `${words}: ${counted(run.end - run.start, "byte")} from ${hex(run.start)}`;
     const whole = run.count > 1 ? null : section?.whole;
     const go = run.count > 1 ? () => zoom(run.start, run.end) : () => choose_part(run.part, told, whole);
-    return bar_button(run, colour, told, go, "map-words", run.count === 1 && state.part?.start === run.part.start);
+    const is_chosen = run.count === 1 && state.part?.start === run.part.start && state.part.owner === run.part.owner;
+    return bar_button(run, colour, told, go, "map-words", is_chosen);
 }
 
 function bar_button({ left, right }, colour, told, go, words, is_current = false) {
@@ -367,7 +389,7 @@ function draw_bar(id, buttons) {
 
 async function choose_part(part, told, whole) {
     state.part = { ...part, told, whole };
-    for (const it of $("map").children) {
+    for (const it of [$("map"), ...$("map-lanes").children].flatMap((bar) => [...bar.children])) {
         const is_current = it.getAttribute("aria-label") === told;
         it.setAttribute("aria-current", String(is_current));
         it.tabIndex = is_current ? 0 : -1;
@@ -398,8 +420,8 @@ function zoom_out() {
 // ---- The bar by address
 
 async function loadable_segments() {
-    const { header, file } = state.open;
-    const segments = header.e_type > 1 ? await ask("segments", 0, Math.min(file.segments, 1000)) : [];
+    const { header } = state.open;
+    const segments = header.e_type > 1 ? await ask("segments", 0, Math.min(header_counts().segments, 1000)) : [];
     return segments.filter((it) => it.p_type === 1 && it.p_memsz > 0);
 }
 
@@ -423,16 +445,17 @@ function show_memory() {
 // ---- The tables
 
 function tables_of(kind) {
-    const { file, tables } = state.open;
-    if (kind === "sections" || kind === "segments") return [{ section: 0, entries: file[kind], name: "" }];
-    return tables.filter((it) => it.kind === kind);
+    if (kind === "sections" || kind === "segments") return [{ section: 0, entries: header_counts()[kind], name: "" }];
+    if (kind === "sizes") return [{ section: 0, entries: state.sizes, name: "" }];
+    return own_tables().filter((it) => it.kind === kind);
 }
 
 function show_tabs() {
-    const kinds = Object.keys(KIND_TITLES).filter((it) => tables_of(it).some((table) => table.entries));
+    // The sizes are counted when they are asked for.
+    const kinds = Object.keys(KIND_TITLES).filter((it) => it === "sizes" || tables_of(it).some((table) => table.entries));
     const tabs = kinds.map((kind) => {
         const count = tables_of(kind).reduce((sum, it) => sum + it.entries, 0);
-        return element("button", `${KIND_TITLES[kind]} (${count.toLocaleString("en")})`,
+        return element("button", kind === "sizes" ? KIND_TITLES.sizes : `${KIND_TITLES[kind]} (${count.toLocaleString("en")})`,
             { type: "button", role: "tab", id: `tab-${kind}`, "aria-controls": "panel", onclick: () => open_table(kind, tables_of(kind)[0].section, 0) });
     });
     $("tabs").replaceChildren(...tabs);
@@ -444,6 +467,7 @@ function show_tabs() {
 
 // Shows the rows of a table from one on, which may be marked.
 async function open_table(kind, section, row, shown = -1) {
+    if (kind === "sizes" && !state.sizes) state.sizes = await ask("size_count");
     const table = tables_of(kind).find((it) => it.section === section);
     if (!table) return;
     if (kind !== state.kind || section !== state.table || shown >= 0) clear_filter();
@@ -491,9 +515,12 @@ async function show_rows(table) {
 }
 
 function table_row(kind, row) {
-    const cells = COLUMNS[kind].map(([, words, link, whole]) => {
+    const broken = broken_titles(kind, row.index);
+    const cells = COLUMNS[kind].map(([title, words, link, whole]) => {
         const to = link?.(row);
-        return element("td", to ? null : words(row), {}, ...(to ? [link_to(to, words(row))] : []), ...buttons_of(whole?.(row)));
+        const own = broken.includes(title) ? { class: "broken" } : {};
+        const mark = broken.includes(title) ? [" !"] : [];
+        return element("td", to ? null : words(row), own, ...(to ? [link_to(to, words(row))] : []), ...mark, ...buttons_of(whole?.(row)));
     });
     const own = kind === "sections" && has_content(row) && row.sh_size
         ? link_to({ bytes: row.sh_offset, length: row.sh_size }, String(row.index)) : String(row.index);
@@ -593,6 +620,7 @@ $("chosen").onchange = () => $("chosen").files[0] && open_file($("chosen").files
 $("zoom-in").onclick = () => state.part && zoom(state.part.start, state.part.start + state.part.len);
 $("zoom-out").onclick = zoom_out;
 $("zoom-whole").onclick = () => zoom(0, state.open.length);
+$("member").onchange = () => open_member(state.archive, Number($("member").value));
 $("which").onchange = () => open_table(state.kind, Number($("which").value), 0);
 $("findings-on").onclick = more_findings;
 $("rows-back").onclick = () => open_table(state.kind, state.table, Math.max(0, state.row - ROWS_A_TIME));

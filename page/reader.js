@@ -122,6 +122,25 @@ class Reader {
         return this.call("elfmap_file", this.start, this.length, this.elfmap_file) ? this.struct("elfmap_file", this.elfmap_file) : null;
     }
 
+    // The same where section header 0 does not lie in the file, by what the header alone says. No section is there then.
+    file_of_header({ e_ident, e_phoff, e_phnum, e_shoff, e_shnum }) {
+        const own = { e_phoff, segments: e_phnum === 0xffff ? 0 : e_phnum, ei_data: e_ident[5] };
+        const { fields, size } = this.layout.elfmap_file;
+        const view = this.view();
+        for (let k = 0; k < size; k++) view.setUint8(this.elfmap_file + k, 0);
+        for (const { name, at, width } of fields) {
+            if (!own[name]) continue;
+            width === 8 ? view.setBigUint64(this.elfmap_file + at, BigInt(own[name]), true) : view.setUint8(this.elfmap_file + at, own[name]);
+        }
+        return { ...this.struct("elfmap_file", this.elfmap_file), e_shoff, sections: e_shnum };
+    }
+
+    // The lowest owner from one on that has a byte; null where there is none.
+    owner(offset, first) {
+        const found = this.call("elfmap_owner", this.elfmap_file, this.start, this.length, offset, first, this.record);
+        return found ? small(this.view().getBigUint64(this.record, true)) : null;
+    }
+
     header() {
         return this.answer("elfmap_header", "elfmap_header", this.start, this.length);
     }

@@ -3,13 +3,17 @@
 // these rules, because `elfmap show`, which answers them, takes memory. So they are written here once more, and are not proved: the tests
 // compare what is found here with what `elfmap show` prints, of thousands of files.
 
-const SHT = { SYMTAB: 2, STRTAB: 3, RELA: 4, HASH: 5, DYNAMIC: 6, NOTE: 7, REL: 9, DYNSYM: 11, GROUP: 17, SYMTAB_SHNDX: 18 };
-const ENTRY_SIZES = { 2: 24, 11: 24, 4: 24, 9: 16, 6: 16, 17: 4, 5: 4 };
+const ENTRY_SIZES = {
+    [SHT.SYMTAB]: 24, [SHT.DYNSYM]: 24, [SHT.RELA]: 24, [SHT.REL]: 16, [SHT.DYNAMIC]: 16, [SHT.GROUP]: 4, [SHT.HASH]: 4,
+};
 // The types of sections that a table may link to.
-const LINKED_TYPES = { 2: [3], 11: [3], 6: [3], 4: [2, 11], 9: [2, 11], 5: [2, 11], 17: [2] };
+const OF_SYMBOLS = [SHT.SYMTAB, SHT.DYNSYM];
+const LINKED_TYPES = {
+    [SHT.SYMTAB]: [SHT.STRTAB], [SHT.DYNSYM]: [SHT.STRTAB], [SHT.DYNAMIC]: [SHT.STRTAB], [SHT.RELA]: OF_SYMBOLS, [SHT.REL]: OF_SYMBOLS,
+    [SHT.HASH]: OF_SYMBOLS, [SHT.GROUP]: [SHT.SYMTAB],
+};
 const FIELD_PLACES = { sh_type: 4, sh_size: 32, sh_link: 40, sh_info: 44, sh_entsize: 56 };
 const RESERVED_FROM = 0xff00;
-const IN_INDEX_TABLE = 0xffff;
 const IN_GROUP = 0x200n;
 // Names of so many bytes are hashed, so that no file holds the page up. The hash of one that is not short is kept.
 const MOST_HASHED = 2 ** 30;
@@ -153,7 +157,7 @@ function wrong_symbol_section(tables, index) {
     const has_words = tables.index_tables.has(index);
     return entry_where(tables, index, 6, (at) => {
         const section = tables.half(at + 6);
-        return section === IN_INDEX_TABLE ? !has_words : section < RESERVED_FROM && !tables.is_section(section);
+        return section === SHN.XINDEX ? !has_words : section < RESERVED_FROM && !tables.is_section(section);
     });
 }
 
@@ -163,7 +167,7 @@ function wrong_index_word(tables, index) {
     const start = tables.start(table);
     const is_wrong = (at, k) => {
         const word = tables.word(start + 4 * k);
-        return tables.half(at + 6) === IN_INDEX_TABLE ? word < RESERVED_FROM || !tables.is_section(word) : word !== 0;
+        return tables.half(at + 6) === SHN.XINDEX ? word < RESERVED_FROM || !tables.is_section(word) : word !== 0;
     };
     const found = entry_where(tables, index, 0, is_wrong);
     return found < 0 ? -1 : start + 4 * ((found - tables.start(index)) / 24);

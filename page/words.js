@@ -1,30 +1,20 @@
 "use strict";
-// Words for the numbers of records, as the gABI (System V ABI, generic part, chapters 4 and 5) names them. SECTION_TYPES, MACHINES and
-// RELOCATION_TYPES come from the Python package: names by their numbers, and those of relocations by the machine.
+// Words for the numbers of records. names.js has their names; RELOCATION_TYPES comes from the Python package: the names of the types of
+// relocations, by the machine.
 
-const NAMES = {
-    p_type: { 0: "NULL", 1: "LOAD", 2: "DYNAMIC", 3: "INTERP", 4: "NOTE", 5: "SHLIB", 6: "PHDR", 7: "TLS" },
-    e_type: { 0: "no type", 1: "relocatable", 2: "executable", 3: "shared object", 4: "core" },
-    st_type: { 0: "NOTYPE", 1: "OBJECT", 2: "FUNC", 3: "SECTION", 4: "FILE", 5: "COMMON", 6: "TLS" },
-    st_bind: { 0: "LOCAL", 1: "GLOBAL", 2: "WEAK" },
-    d_tag: { 1: "NEEDED", 2: "PLTRELSZ", 3: "PLTGOT", 4: "HASH", 5: "STRTAB", 6: "SYMTAB", 7: "RELA", 8: "RELASZ", 9: "RELAENT", 10: "STRSZ",
-        11: "SYMENT", 12: "INIT", 13: "FINI", 14: "SONAME", 15: "RPATH", 16: "SYMBOLIC", 17: "REL", 18: "RELSZ", 19: "RELENT", 20: "PLTREL",
-        21: "DEBUG", 22: "TEXTREL", 23: "JMPREL", 24: "BIND_NOW", 25: "INIT_ARRAY", 26: "FINI_ARRAY", 27: "INIT_ARRAYSZ",
-        28: "FINI_ARRAYSZ", 29: "RUNPATH", 30: "FLAGS" },
-};
-const RESERVED = { 0: "undefined", 0xfff1: "absolute", 0xfff2: "common" };
 // Section types that have tables, and of which kind.
-const KINDS = { 2: "symbols", 11: "symbols", 4: "relocations", 9: "relocations", 6: "dynamic", 7: "notes" };
-// The tags of entries whose value is the offset of a string.
-const STRING_TAGS = [1, 14, 15, 29];
-const SECTION_FLAGS = ["W", "A", "X", "", "M", "S", "I", "L", "O", "G", "T", "C"];
+const KINDS = {
+    [SHT.SYMTAB]: "symbols", [SHT.DYNSYM]: "symbols", [SHT.RELA]: "relocations", [SHT.REL]: "relocations", [SHT.DYNAMIC]: "dynamic",
+    [SHT.NOTE]: "notes",
+};
 
 function named(kind, number) {
-    return (kind === "sh_type" ? SECTION_TYPES : NAMES[kind])[number] ?? signed(number);
+    return NAMES[kind][number] ?? signed(number);
 }
 
 function machine_words(number) {
-    return `machine ${number}${MACHINES[number] ? ` (EM_${MACHINES[number]})` : ""}`;
+    const name = NAMES.e_machine[number];
+    return `machine ${number}${name ? ` (EM_${name})` : ""}`;
 }
 
 function hex(number) {
@@ -39,13 +29,12 @@ function counted(number, one, more = `${one}s`) {
     return `${number.toLocaleString("en")} ${number === 1 ? one : more}`;
 }
 
-// Flags by their letters, as readelf has them.
 function section_flags(flags) {
-    return SECTION_FLAGS.filter((_, k) => Number((BigInt(flags) >> BigInt(k)) & 1n)).join("") || "-";
+    return Object.entries(SECTION_FLAGS).filter(([flag]) => BigInt(flags) & BigInt(flag)).map(([, letter]) => letter).join("") || "-";
 }
 
 function segment_flags(flags) {
-    return (flags & 4 ? "R" : "-") + (flags & 2 ? "W" : "-") + (flags & 1 ? "X" : "-");
+    return Object.entries(SEGMENT_FLAGS).reverse().map(([flag, letter]) => (flags & flag ? letter : "-")).join("");
 }
 
 // The columns of each table: a title, the words of a row, where a link leads to, if it is one, and where the whole name is, if it is cut.
@@ -58,7 +47,7 @@ const COLUMNS = {
         ["size", (it) => hex(it.sh_size)],
         ["address", (it) => hex(it.sh_addr)],
         ["link", (it) => String(it.sh_link), (it) => it.sh_link && { kind: "sections", row: it.sh_link }],
-        ["info", (it) => String(it.sh_info), (it) => [4, 9].includes(it.sh_type) && it.sh_info && { kind: "sections", row: it.sh_info }],
+        ["info", (it) => String(it.sh_info), (it) => KINDS[it.sh_type] === "relocations" && it.sh_info && { kind: "sections", row: it.sh_info }],
         ["alignment", (it) => hex(it.sh_addralign)],
         ["entry size", (it) => String(it.sh_entsize)],
     ],
@@ -98,13 +87,20 @@ const COLUMNS = {
     ],
 };
 
+COLUMNS.sizes = [
+    ["name", (it) => it.name || "(no name)", (it) => it.section > 0 && { kind: "sections", row: it.section }, (it) => it.whole],
+    ["in the file", (it) => it.bytes.toLocaleString("en")],
+    ["share", (it) => `${(100 * it.share).toFixed(1)} %`],
+    ["in memory", (it) => it.memory.toLocaleString("en")],
+];
+
 function has_content(section) {
-    return section.sh_type !== 0 && section.sh_type !== 8;
+    return section.sh_type !== SHT.NULL && section.sh_type !== SHT.NOBITS;
 }
 
 function symbol_place(symbol) {
     if (symbol.is_in_section) return `${symbol.section} ${symbol.where}`.trim();
-    return RESERVED[symbol.st_shndx] ?? hex(symbol.st_shndx);
+    return NAMES.st_shndx[symbol.st_shndx] ?? hex(symbol.st_shndx);
 }
 
 function row_words(kind, row) {

@@ -46,6 +46,9 @@ const QUESTIONS = {
     relocations: (from, count, table, most) => rows(from, count, (k) => relocation_row(table, k, most)),
     dynamic: (from, count, table, most) => rows(from, count, (k) => dynamic_row(table, k, most)),
     notes: (from, count, table, most) => rows(from, count, (k) => note_row(table, k, most)),
+    refused,
+    size_count,
+    sizes: (from, count, table, most) => rows(from, count, (k) => size_row(k, most)),
     bytes: (from, count) => reader.bytes(from, Math.max(0, Math.min(count, reader.length - from))).slice(),
     name: (from, end) => reader.part_of_name(from, end),
     findings,
@@ -59,6 +62,9 @@ async function open(file) {
     const own = ++turn;
     const length = Math.min(file.size, MOST_BYTES + 1);
     reader = null;
+    const archive = file.size < ARCHIVE_MAGIC.length ? null : await members_of(file);
+    if (own !== turn) throw new Error("another file was opened");
+    if (archive) return { archive };
     const instance = await WebAssembly.instantiate(await module);
     // Also of an empty file, which is read in no piece.
     if (own !== turn) throw new Error("another file was opened");

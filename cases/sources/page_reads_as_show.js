@@ -10,7 +10,7 @@ const [, , module_path, layout_path, ...paths] = process.argv;
 const LAYOUT = JSON.parse(fs.readFileSync(layout_path, "utf8"));
 // Beside the folder by which this script was named, also where that is a link.
 const page = path.resolve(__dirname, "../../page");
-for (const name of ["declared.js", "words.js", "reader.js", "tables.js"]) {
+for (const name of ["names.js", "declared.js", "words.js", "reader.js", "tables.js"]) {
     vm.runInThisContext(fs.readFileSync(`${page}/${name}`, "utf8"), { filename: pathToFileURL(`${page}/${name}`).href });
 }
 // Classes and constants of a script are no properties of its global object: the last line gives what is used here.

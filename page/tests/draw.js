@@ -383,13 +383,14 @@ test("numbers have their names, and flags their letters", () => {
     assert.deepEqual([0, 1, 2, 4, 7].map((it) => page.script(`segment_flags(${it})`)), ["---", "--X", "-W-", "R--", "RWX"]);
     assert.equal(page.script(`named("d_tag", 1)`), "NEEDED");
     assert.equal(page.script(`named("d_tag", 30)`), "FLAGS");
-    assert.equal(page.script(`named("d_tag", 0x6ffffef5)`), "0x6ffffef5");
+    assert.equal(page.script(`named("d_tag", 0x6ffffef5)`), "GNU_HASH");
+    assert.equal(page.script(`named("d_tag", 0x6ffffef0)`), "0x6ffffef0");
     assert.equal(page.script(`named("d_tag", -2)`), "-0x2");
     assert.equal(page.script(`named("p_type", 7)`), "TLS");
     assert.equal(page.script(`named("st_bind", 2)`), "WEAK");
     assert.equal(page.script(`named("st_type", 2)`), "FUNC");
     assert.equal(page.script("machine_words(62)"), "machine 62 (EM_X86_64)");
-    assert.equal(page.script("machine_words(1)"), "machine 1");
+    assert.equal(page.script("machine_words(11)"), "machine 11");
     assert.deepEqual([-1, -16, 0, 16].map((it) => page.script(`signed(${it})`)), ["-0x1", "-0x10", "0x0", "0x10"]);
     assert.equal(page.script("signed(-(2n ** 63n))"), "-0x8000000000000000");
     assert.deepEqual([0, 1, 2, 20000].map((it) => page.script(`counted(${it}, "part")`)), ["0 parts", "1 part", "2 parts", "20,000 parts"]);
@@ -399,12 +400,19 @@ const ELF_H = "/usr/include/elf.h";
 
 test("the names of numbers are those of the C library's header", { skip: !fs.existsSync(ELF_H) }, () => {
     const header = fs.readFileSync(ELF_H, "utf8");
-    const known = new Map(Array.from(header.matchAll(/^#define\s+(\w+)\s+(\d+)\b/gm), ([, name, number]) => [name, Number(number)]));
+    const known = new Map(Array.from(header.matchAll(/^#define\s+(\w+)\s+(0x[0-9a-fA-F]+|\d+)\b/gm), ([, name, number]) => [name, Number(number)]));
     const { NAMES, KINDS, STRING_TAGS } = plain(made_page().script("({ NAMES, KINDS, STRING_TAGS })"));
     // Of each kind as many as the gABI has without those of systems and processors.
     for (const [kind, prefix, first, last] of [["p_type", "PT", 0, 7], ["st_type", "STT", 0, 6], ["st_bind", "STB", 0, 2], ["d_tag", "DT", 1, 30]]) {
         const numbers = Object.values(NAMES[kind]).map((name) => known.get(`${prefix}_${name}`));
-        assert.deepEqual(numbers, Array.from({ length: last - first + 1 }, (_, k) => first + k), kind);
+        assert.deepEqual(Object.keys(NAMES[kind]).map(Number), numbers, kind);
+        const generic = Array.from({ length: last - first + 1 }, (_, k) => first + k);
+        assert.deepEqual(generic.filter((number) => NAMES[kind][number] === undefined), [], kind);
+    }
+    // Of LLVM's type the header has no name, and the versions of symbols are in small letters there.
+    const lower = new Map([...known].map(([name, number]) => [name.toLowerCase(), number]));
+    for (const [kind, prefix] of [["sh_type", "sht"], ["e_machine", "em"]]) {
+        const numbers = Object.values(NAMES[kind]).map((name) => (name === "LLVM_ADDRSIG" ? 0x6fff4c03 : lower.get(`${prefix}_${name.toLowerCase()}`)));
         assert.deepEqual(Object.keys(NAMES[kind]).map(Number), numbers, kind);
     }
     const types = { SYMTAB: "symbols", DYNSYM: "symbols", RELA: "relocations", REL: "relocations", DYNAMIC: "dynamic", NOTE: "notes" };
@@ -423,7 +431,7 @@ test("a symbol is in a section, or in none", () => {
 });
 
 test("a script of the page leads nowhere and connects to nothing", () => {
-    for (const name of ["declared.js", "draw.js", "reader.js", "tables.js", "words.js", "worker.js"]) {
+    for (const name of ["declared.js", "draw.js", "names.js", "reader.js", "tables.js", "words.js", "worker.js"]) {
         const found = text_of(name).match(/\b(location|open\(\s*["'`]|RTCPeerConnection|WebTransport|fetch|XMLHttpRequest|WebSocket|EventSource|sendBeacon|importScripts)\b/);
         assert.equal(found, null, name);
         for (const [, target] of text_of(name).matchAll(/href: "([^"]*)"/g)) assert.equal(target, "#", name);

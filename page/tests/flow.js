@@ -21,6 +21,8 @@ function answers(more = {}) {
         bytes: (from, count) => new Uint8Array(Math.max(0, Math.min(count, 200 - from))),
         findings: () => 0,
         finding_rows: () => [],
+        // What is no ELF-64 file has no map, also if a rule is broken.
+        refused: () => null,
     };
 }
 
@@ -61,7 +63,7 @@ test("a sound file is drawn", async () => {
     assert.deepEqual(["map-section", "tables-section", "main", "progress"].map((it) => page.by_id(it).hidden), [false, false, false, true]);
     assert.equal(page.text("findings-words"), "No table breaks a rule of tables.");
     assert.equal(page.by_id("findings-on").hidden, true);
-    assert.deepEqual(page.by_id("tabs").children.map((it) => it.textContent), ["Sections (2)"]);
+    assert.deepEqual(page.by_id("tabs").children.map((it) => it.textContent), ["Sections (2)", "Sizes"]);
     assert.equal(page.text("table-words"), "Sections 1 to 2 of 2");
     assert.equal(page.text("bytes-words"), "Bytes 0x0 to 0xc7 of 200 bytes");
 });
@@ -288,8 +290,8 @@ function with_symbols() {
 
 test("each kind of table has a tab", async () => {
     const page = await opened(with_symbols());
-    const [sections, symbols] = page.by_id("tabs").children;
-    assert.deepEqual([sections.textContent, symbols.textContent], ["Sections (2)", "Symbols (4)"]);
+    const [sections, symbols, sizes] = page.by_id("tabs").children;
+    assert.deepEqual([sections, symbols, sizes].map((it) => it.textContent), ["Sections (2)", "Symbols (4)", "Sizes"]);
     await page.press(symbols);
     assert.equal(page.text("table-words"), "Symbols 1 to 3 of 3");
     assert.deepEqual([sections, symbols].map((it) => [it.getAttribute("aria-selected"), it.tabIndex]), [["false", -1], ["true", 0]]);
@@ -301,7 +303,7 @@ test("each kind of table has a tab", async () => {
     assert.equal(page.text("table-words"), "Symbols 1 to 1 of 1");
     // The arrows go along the tabs.
     symbols.focus();
-    for (const [name, to] of [["ArrowLeft", sections], ["ArrowLeft", sections], ["ArrowRight", symbols], ["ArrowRight", symbols], ["x", symbols]]) {
+    for (const [name, to] of [["ArrowLeft", sections], ["ArrowLeft", sections], ["ArrowRight", symbols], ["ArrowRight", sizes], ["ArrowRight", sizes], ["x", sizes]]) {
         page.key("tabs", name);
         assert.equal(page.document.activeElement, to);
     }

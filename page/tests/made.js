@@ -63,9 +63,9 @@ function made_page() {
     }
     const window = { innerWidth: 1200 };
     const context = vm.createContext({ document, window, Worker, URL: { createObjectURL: () => "" }, Blob: class {}, atob, TextDecoder, console,
-        setTimeout, clearTimeout, MACHINES: { 62: "X86_64" }, SECTION_TYPES: { 1: "PROGBITS" }, RELOCATION_TYPES: {}, RULES: {}, LAYOUT: {}, MODULE: "AGFzbQ==" });
+        setTimeout, clearTimeout, RELOCATION_TYPES: {}, RULES: {}, LAYOUT: {}, MODULE: "AGFzbQ==" });
     const script = (text) => vm.runInContext(text, context);
-    run_scripts(context, "declared.js", "words.js", "draw.js");
+    run_scripts(context, "names.js", "declared.js", "words.js", "refused.js", "draw.js");
     // Answers the question that was asked first, and lets the page go on.
     const answer = async (value) => {
         const { id } = asked.shift();
@@ -108,9 +108,9 @@ function made_worker(...names) {
     // A module of memory, and no calls.
     const module = { compile: (code) => ({ code }), instantiate: async (module) => ({ module, exports: { memory, __heap_base: { value: 1024 } } }) };
     const posted = [];
-    const context = vm.createContext({ TextDecoder, performance, setTimeout, console, LAYOUT: layout, MACHINES: {}, SECTION_TYPES: { 1: "PROGBITS" },
+    const context = vm.createContext({ TextDecoder, performance, setTimeout, console, LAYOUT: layout,
         RELOCATION_TYPES: { 62: { 4: "PLT32" } }, WebAssembly: module, postMessage: (it) => posted.push(it) });
-    run_scripts(context, "declared.js", "words.js", "reader.js", "tables.js", "worker.js");
+    run_scripts(context, "names.js", "declared.js", "words.js", "reader.js", "tables.js", "archive.js", "parts.js", "worker.js");
     return { ...vm.runInContext(`({ ${names.join(", ")} })`, context), posted };
 }
 

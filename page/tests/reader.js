@@ -191,6 +191,33 @@ test("what is not there is null", () => {
     assert.deepEqual(told("elfmap_table", ...others).length, 12);
 });
 
+test("the owners of a byte are asked for one after the other", () => {
+    const reader = called(64, (put) => ({
+        elfmap_owner: (file, bytes, length, offset, first, owner) => {
+            const found = [4, 9, 2 ** 60].find((it) => it >= first);
+            if (offset !== 50 || found === undefined) return false;
+            put(owner, found);
+            return true;
+        },
+    }));
+    assert.deepEqual([[50, 0], [50, 4], [50, 5], [51, 0]].map(([offset, first]) => reader.owner(offset, first)), [4, 4, 9, null]);
+    assert.equal(reader.owner(50, 10), 2n ** 60n);
+});
+
+test("without section header 0 a file has the program headers of its header, and no sections", () => {
+    const fields = [["e_phoff", 8], ["e_shoff", 8], ["sections", 8], ["segments", 8], ["name_table", 8], ["ei_data", 1]];
+    const layout = { ...STRUCTS, elfmap_file: { size: 48, fields: fields.map(([name, width], k) => ({ name, width, at: 8 * k })) } };
+    const memory = new WebAssembly.Memory({ initial: 1 });
+    const reader = new Reader({ exports: { memory, __heap_base: { value: 1024 } } }, layout, 64);
+    new Uint8Array(memory.buffer).fill(255);
+    const header = { e_ident: [127, 69, 76, 70, 2, 2], e_phoff: 2n ** 60n, e_phnum: 7, e_shoff: 9000, e_shnum: 12 };
+    const own = { e_phoff: 2n ** 60n, e_shoff: 9000, sections: 12, segments: 7, name_table: 0, ei_data: 2 };
+    assert.deepEqual({ ...reader.file_of_header(header) }, own);
+    // The module sees no section.
+    assert.deepEqual({ ...reader.struct("elfmap_file", reader.elfmap_file) }, { ...own, e_shoff: 0, sections: 0 });
+    assert.equal(reader.file_of_header({ ...header, e_phnum: 0xffff }).segments, 0);
+});
+
 test("a name is looked for if it is as long as the buffer for it", () => {
     let asked = [];
     const find = (table, at, length, name, name_length) => (asked.push(name_length), true);

@@ -202,7 +202,8 @@ test("rows are in words", () => {
     assert.deepEqual(words("segments", segment), ["LOAD", "R-X", "0x40", "0x400000", "0x8", "0x10", "0x1000"]);
     const symbol = { name: "f", st_value: 16, st_size: 4, st_info: 0x12, st_shndx: 1, section: 1, is_in_section: true, where: ".text" };
     assert.deepEqual(words("symbols", symbol), ["f", "0x10", "4", "FUNC", "GLOBAL", "1 .text"]);
-    assert.deepEqual(words("symbols", { ...symbol, name: "", st_info: 0xda }), ["(no name)", "0x10", "4", "0xa", "0xd", "1 .text"]);
+    assert.deepEqual(words("symbols", { ...symbol, name: "", st_info: 0xd9 }), ["(no name)", "0x10", "4", "0x9", "0xd", "1 .text"]);
+    assert.deepEqual(words("symbols", { ...symbol, st_info: 0xaa }).slice(3, 5), ["GNU_IFUNC", "GNU_UNIQUE"]);
     const relocation = { r_offset: 4, relocation_type: 4, type_name: "PLT32", symbol: 7, name: "f", r_addend: -4, target: 1 };
     assert.deepEqual(words("relocations", relocation), ["0x4", "PLT32", "7 f", "-0x4", "section 1"]);
     assert.deepEqual(words("relocations", { ...relocation, type_name: undefined, name: "" }).slice(1, 3), ["4", "7"]);
