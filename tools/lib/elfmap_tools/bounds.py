@@ -8,6 +8,7 @@ compared."""
 import os
 import re
 import shutil
+import signal
 import subprocess
 import sys
 from functools import cache
@@ -51,6 +52,9 @@ OF_PYTHON = {
     "lint --object": ["lint", "-j1", "--object"],
     "explain": ["explain"],
     "gaps": ["gaps"],
+    "view": ["view"],
+    "view --all": ["view", "--all", "--sizes"],
+    "view --json": ["view", "--json", "--all", "--sizes"],
 }
 PYTHON_SECONDS = 0.3
 PYTHON_MEMORY = 32 << 20
@@ -59,16 +63,20 @@ LONGEST = 100
 STACK = 1 << 20
 MOST_ADDRESSES = 1 << 30
 MOST_OUTPUT = 64 << 20
+# How a command ends whose output is cut; one of Python as a program that SIGPIPE ends.
+CUT = (3,)
+PYTHON_CUT = (3, 128 + signal.SIGPIPE)
 # A process of Python has more threads and libraries.
 PYTHON_STACK = 8 << 20
 PYTHON_ADDRESSES = 4 << 30
 
 
 class Cost(NamedTuple):
-    """How a call ended, whether its output was cut, and what it took: seconds, bytes in and out,
-    and bytes of memory at once."""
+    """How a call ended, the statuses with which it may end, and what it took: seconds, bytes in and
+    out, and bytes of memory at once."""
 
     status: int
+    well: tuple[int, ...]
     is_cut: bool
     seconds: float
     moved: int
@@ -76,7 +84,7 @@ class Cost(NamedTuple):
 
     def is_well(self) -> bool:
         """Whether it ended without an error, but for the failed write of an output that was cut."""
-        return self.status == (3 if self.is_cut else 0)
+        return self.status in self.well
 
 
 def words_of(command: str, file: str, rules: str) -> list[str]:
@@ -127,7 +135,10 @@ def cost_of(folder: str, command: str, file: str) -> Cost:
     said = dict(line.split() for line in report_of(folder))
     seconds = usage.ru_utime + usage.ru_stime
     moved = os.path.getsize(file) + output
-    return Cost(ran.returncode, is_cut, seconds, moved, int(said.get("peak", 0)))
+    well: tuple[int, ...] = (0,)
+    if is_cut:
+        well = PYTHON_CUT if command in OF_PYTHON else CUT
+    return Cost(ran.returncode, well, is_cut, seconds, moved, int(said.get("peak", 0)))
 
 
 def wrong_with(command: str, length: int, it: Cost, standing: Standing, tables: int = 0) -> str:

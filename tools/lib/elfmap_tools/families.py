@@ -24,7 +24,8 @@ STANDINGS = {(family, command): it for family, commands, it in NOT_YET for comma
 # The greatest exponent of n, from the smaller files to the larger ones.
 GROWTH = 1.1
 # The commands that read any file, and those that read an object.
-READING = ["check", "check --seek", "show", "lint --tables", "explain", "gaps"]
+VIEWS = ["view", "view --all", "view --json"]
+READING = ["check", "check --seek", "show", "lint --tables", "explain", "gaps", *VIEWS]
 OF_OBJECTS = [*READING, "rewrite", "map", "map --rules", "link", "lint --object"]
 
 # ---- the families

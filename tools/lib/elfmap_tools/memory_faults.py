@@ -49,7 +49,6 @@ GROWTHS = SIZED | {
 # nothing, and have no reader.
 INTO_A_VECTOR = {
     "show_length",
-    "push_refused_tables",
     "put_verdicts",
     "rewrite_within",
     "map_length",
@@ -59,9 +58,6 @@ INTO_A_VECTOR = {
 OF_CRATE = "crates/elf_c_engines/"
 # The function that says so of a text that has room, but was not kept.
 NOT_KEPT = ("crates/elf_c_engines/src/said.rt", "unkept")
-# The function with an arm `Err(_)` after one for too long a file: the contract of what it calls has
-# no third fault but out of memory.
-LAST_OF_TWO = ("crates/elf_exec/src/exec_writing.rt", "exec_length")
 # A writer that does not fail.
 SINK = "&mut sink()"
 FAILED_WRITE = re.compile(r"\b(?:WriteFault|\w+::Write) \{|\w+::Io \{ ?written")
@@ -129,8 +125,6 @@ class Reading:
             return "From"
         if (self.function.path, self.function.name) == NOT_KEPT:
             return "text with room"
-        if (self.function.path, self.function.name) == LAST_OF_TWO:
-            return "last of two faults"
         for pattern, expression, is_else in self.branches(at):
             is_growth = last_call(expression) in self.memory_calls or SINK in expression
             if not is_else and all(WANT.search(it) for it in pattern.split("|")):

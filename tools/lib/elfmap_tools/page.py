@@ -6,12 +6,13 @@ import contextlib
 from .library import VERDICTS as CRATE
 from .page_in_chromium import InChromium
 from .page_in_node import in_node
+from .page_of_refused import try_refused
 from .requirements import SELENIUM
 from .suite import Tally, Test, number
 from .tree import Options, wanted, write
 
 ABOUT = "the page for a browser, in node beside `elfmap show`, and in chromium"
-TOOLS = f"node wasm-opt chromium chromedriver {SELENIUM} cc gcc"
+TOOLS = f"node wasm-opt chromium chromedriver {SELENIUM} ar cc gcc"
 SOURCE = """int limit = 3;
 int work(int);
 const char *name(void) { return "answer"; }
@@ -52,6 +53,7 @@ def try_page(tally: Tally, options: Options) -> None:
             it.far_segment,
         ):
             part()
+        try_refused(it, file)
         it.another_file(file)
         for part in (it.long_names, it.much_to_say, it.without_sections):
             part()

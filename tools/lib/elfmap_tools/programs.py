@@ -14,6 +14,9 @@ from . import (
     c_library,
     cases,
     changed_files,
+    conformance,
+    conformance_page,
+    conformance_runs,
     coverage,
     definitions,
     definitions_page,
@@ -64,7 +67,18 @@ from . import (
     web_page,
 )
 from .building import Build
-from .suite import TESTS, Option, Test, commands_of, families, run_one, run_several, word
+from .suite import (
+    TESTS,
+    Option,
+    Test,
+    commands_of,
+    families,
+    flag,
+    number,
+    run_one,
+    run_several,
+    word,
+)
 from .requirements import setup
 from .tree import LIBRARIES_OF, PACKAGE, PROCESSORS, TOP, Options, progress
 
@@ -100,6 +114,10 @@ OBJECTS = [
     word("program", "elfmap"),
     word("file", "an object, or an archive of objects", nargs="+"),
 ]
+CONFORMANCE = [
+    number("generated", 1000, "so many generated files"),
+    word("--results", "a folder that keeps what is found of each tool", metavar="FOLDER"),
+]
 SWEEP = [
     word("count", "how many packages", type=int),
     word("seed", "the seed of the draw", type=int),
@@ -133,10 +151,22 @@ DEV = [
         [OF_PACKAGE],
     ),
     Command(
+        "view",
+        "show what is in a file, also in a broken one: elfmap-view of the Python package",
+        package_command,
+        [OF_PACKAGE],
+    ),
+    Command(
         "peers",
         "write the tables of docs/generated/PEERS.md: what other tools say of files that elfmap "
         "refuses",
         peers.main,
+    ),
+    Command(
+        "conformance",
+        "write docs/generated/CONFORMANCE.md and its reports: how tools read the suite's files",
+        conformance_page.main,
+        CONFORMANCE,
     ),
     Command(
         "coverage",
@@ -175,6 +205,7 @@ DEV = [
 VERSION = word("version", "the version", nargs="?", default="")
 HERE = word("folder", "where to (here)", nargs="?", default=".")
 THERE = word("folder", "where to (crates/elf_c/out)", nargs="?", default=library.FOLDER)
+ANSWERS_OF_LARGE = flag("large", "make the answers of its large files again, in minutes")
 PICTURE = [word("file", "an ELF file"), word("picture", "the picture, as PNG")]
 RELEASE = [
     Command(
@@ -188,6 +219,18 @@ RELEASE = [
         "make all packages of what is built: of Debian, Python and Rust, and the archive",
         package_files.make_packages,
         [HERE],
+    ),
+    Command(
+        "conformance",
+        "pack the conformance suite, whose version is in conformance/VERSION",
+        lambda it: print(conformance.pack(it.folder)),
+        [HERE],
+    ),
+    Command(
+        "conformance-numbers",
+        "give new cases of the conformance suite their numbers",
+        conformance.give_numbers,
+        [ANSWERS_OF_LARGE],
     ),
     Command(
         "library",
@@ -252,6 +295,7 @@ MODULES = [
     must_not_compile,
     cases,
     make_cases,
+    conformance_runs,
     release,
     launcher,
     packages,

@@ -6,12 +6,16 @@ from .tree import PACKAGE, TOP
 
 PROGRAMS = [f"{TOP}/tools/{it}" for it in ("dev", "test", "release")]
 BENCHMARKS = [f"{TOP}/bench/{it}" for it in ("growth", "library", "lint", "slow")]
+# The conformance suite, in its folder.
+CONFORMANCE = ["run.py", "elf_conformance/*.py", "cases/*.py", "adapters/*.py"]
 SETTINGS = f"{TOP}/tools/pyproject.toml"
 
 
 def own_files() -> list[str]:
-    """The modules and programs of the tools, the benchmarks and the reference implementation."""
+    """The modules and programs of the tools, the benchmarks, the conformance suite and the
+    reference implementation."""
     modules = [f"{TOP}/tools/lib/elfmap_tools/*.py", f"{TOP}/bench/*.py", f"{TOP}/reference/*.py"]
+    modules += [f"{TOP}/conformance/{it}" for it in CONFORMANCE]
     return [*PROGRAMS, *BENCHMARKS, *files_like(*modules)]
 
 

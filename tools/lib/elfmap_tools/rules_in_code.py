@@ -1,8 +1,8 @@
 """The tables of rules in the crates and the bindings, which `tools/release tables` makes of
 docs/RULES.md: the names of the rules of files, objects and links, for the faults of the crates:
 each `src/rule_names.rt`; and with their sentences for the bindings: bindings/rust/src/rules.rs and
-bindings/python/elfmap/_rules.py. It makes the constants of the crate for Rust, too, and what both
-bindings and the page declare of include/elfmap.h."""
+bindings/python/elfmap/_rules.py. It makes the constants of the crate for Rust and those of the
+page, too, and what both bindings and the page declare of include/elfmap.h."""
 
 import functools
 import glob
@@ -11,7 +11,7 @@ import pprint
 import textwrap
 from collections.abc import Iterable, Iterator
 
-from . import constants_in_rust, header_in_code
+from . import constants_in_rust, header_in_code, names_in_script
 from .rules_page import Rule, file_rules, rules_of
 from .tree import TOP, Options, read_text, write
 
@@ -123,6 +123,7 @@ def tables() -> dict[str, str]:
         "bindings/rust/src/raw/declared.rs": header_in_code.rust(),
         "bindings/python/elfmap/_declared.py": header_in_code.python(),
         "page/declared.js": header_in_code.script(),
+        names_in_script.PATH: names_in_script.script(),
     }
     for path in sorted(glob.glob("crates/elf_*/src/rule_names.rt", root_dir=TOP)):
         crate = path.split("/")[1]

@@ -1,10 +1,11 @@
 """`tools/test rules-tables`: the tables of rules in the crates and the bindings are those of
-docs/RULES.md, and reference/image.py has the same names. The constants of the crate for Rust are
-those of the Python package. Both bindings, the page and the crates declare what include/elfmap.h
-declares."""
+docs/RULES.md, and reference/image.py has the same names. The constants of the crate for Rust and of
+the page are those of the Python package, and the crate elf_field has the same numbers. Both
+bindings, the page and the crates declare what include/elfmap.h declares."""
 
 from .header import PATH, parsed
 from .header_in_crates import compare_crates
+from .numbers_in_crates import compare_numbers
 from .reference import RULE_NAMES
 from .rules_in_code import tables
 from .rules_page import rules_of
@@ -41,5 +42,6 @@ def try_rules_tables(tally: Tally, options: Options) -> None:
     names = [it.name for it in rules_of("image", range(1, 34))]
     tally.check(RULE_NAMES == names, "reference/image.py has other names than docs/RULES.md")
     compare_crates(tally)
+    compare_numbers(tally)
     for it in UNKNOWN:
         tally.check(is_refused(read_text(PATH) + it), f"{PATH} may have {it!r}")

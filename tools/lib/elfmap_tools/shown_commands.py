@@ -46,6 +46,7 @@ SKIPPED = {
     "bench/growth crates/elfmap/out/elfmap": MEASURES,
     "bench/library": MEASURES,
     "bench/lint": MEASURES,
+    "bench/view": MEASURES,
 }
 # Tools whose output depends on their version, and the packages by which README.md names that.
 PACKAGES = {

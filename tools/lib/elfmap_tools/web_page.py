@@ -9,6 +9,7 @@ lowers it to one of 32-bit addresses."""
 import base64
 import ctypes
 import hashlib
+import html
 import json
 import os
 import shutil
@@ -20,7 +21,7 @@ from .building import built_below, is_current, kit, words
 from .header import class_name, of_library
 from .library import FOLDER, VERDICTS as CRATE
 from .rules_page import file_rules
-from .tree import TOP, filled, read_bytes, read_text, wanted
+from .tree import TOP, cells, filled, read_bytes, read_text, wanted
 
 Structs = dict[str, dict[str, Any]]
 MODULE = f"{FOLDER}/{CRATE}.wasm"
@@ -105,32 +106,40 @@ def policy(script: str, style: str) -> str:
     return "; ".join(f"{directive} {sources}" for directive, sources in allowed.items())
 
 
+def tools_table() -> str:
+    """The rows of the table of docs/generated/CONFORMANCE.md, as rows of a table of the page."""
+    text = read_text("docs/generated/CONFORMANCE.md").partition("\n## ")[0]
+    head, *rows = [cells(it) for it in text.splitlines() if it.startswith("| ")]
+    made = [f"<thead><tr>{''.join(f'<th>{html.escape(it)}</th>' for it in head)}</tr></thead>"]
+    for row in rows:
+        made.append(f"<tr>{''.join(f'<td>{html.escape(it)}</td>' for it in row)}</tr>")
+    return "\n".join(made)
+
+
 def page() -> str:
     """The page."""
     code = base64.b64encode(read_bytes(module())).decode("ascii")
-    # The names of numbers, as the Python package has them.
+    # The names of relocations, as the Python package has them.
     relocations = {
         machine: names.relocation_types(machine) for machine in names.machines_with_relocations()
     }
-    of_numbers = {
-        "MACHINES": names.MACHINES,
-        "SECTION_TYPES": names.SECTION_TYPES,
-        "RELOCATION_TYPES": relocations,
-    }
-    common = constants(LAYOUT=layout(), **of_numbers)
-    common += read_text("page/declared.js") + read_text("page/words.js")
-    worker = common + "".join(read_text(f"page/{it}.js") for it in ("reader", "tables", "worker"))
+    common = constants(LAYOUT=layout(), RELOCATION_TYPES=relocations)
+    common += "".join(read_text(f"page/{it}.js") for it in ("names", "declared", "words"))
+    of_worker = ("reader", "tables", "archive", "parts", "worker")
+    worker = common + "".join(read_text(f"page/{it}.js") for it in of_worker)
     # Of each rule of files its name, why a file is refused, and what to do.
     rules = {
         it.number: [it.name, it.sentence.replace("`", ""), it.advice.replace("`", "")]
         for it in file_rules()
     }
-    script = common + constants(RULES=rules, MODULE=code) + read_text("page/draw.js")
+    of_page = "".join(read_text(f"page/{it}.js") for it in ("refused", "draw"))
+    script = common + constants(RULES=rules, MODULE=code) + of_page
     if "</script" in worker + script:
         raise SystemExit("page: a script ends its own element")
     style = read_text("page/style.css")
     return filled(
         read_text("page/page.html"),
+        CONFORMANCE=tools_table(),
         POLICY=policy(script, style),
         STYLE=style,
         WORKER=worker,

@@ -1,0 +1,1 @@
+"""An adapter for each tool. A module here has a list TOOLS."""
