@@ -153,7 +153,9 @@ class Both:
         words = ["map", "--base", hex(base), "--page", hex(page)]
         script = Map(shop.wanted(PROGRAM, *words, *names), files).script(names)
         write(f"{shop.folder}/script", script)
-        self.ruled = shop.run(PROGRAM, *words, "--rules", rules, *names)
+        self.names = names
+        self.words = [*words, "--rules", rules]
+        self.ruled = shop.run(PROGRAM, *self.words, *names)
         self.by_ld = shop.run(*ld, *LD_WORDS, *names)
         self.ends = f"map {ending(self.ruled)}; ld {ending(self.by_ld)}"
         self.shop = shop

@@ -5,7 +5,9 @@ members in order.
 Then ld has the same sections, each live one with the same bytes, and each name with the same value;
 and where the program does not fit its addresses, ld refuses it too. The files are made without what
 ld edits itself: strings to be merged, and .eh_frame, which is renamed. From 2^63 on ld counts
-modulo 2^64: that is left out."""
+modulo 2^64: that is left out.
+
+Objects that went through `rewrite` give the same map, byte for byte, or the same refusal."""
 
 from collections import Counter
 from typing import NamedTuple
@@ -71,6 +73,8 @@ def try_linked_like_ld(tally: Tally, options: Options) -> None:
     totals = Counter[str]()
     for program in PROGRAMS:
         both = both_of(Workshop(tally.new_folder(program.title)), program)
+        changed = both.shop.rewrite_changes(both.words, both.names)
+        tally.check(not changed, f"{program.title}: {changed}")
         if not program.fits:
             why = f"{program.title}: it is not refused by both: {both.ends}"
             tally.check(is_refused(both), why)

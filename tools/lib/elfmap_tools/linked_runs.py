@@ -1,6 +1,7 @@
 """`tools/test linked-runs`: programs run the same by ld and by elfmap: of C, of C++, and of C over
 Debian's klibc, which has the objects of its archive that it needs. Each executable is the
-reference's, and `check`, readelf and eu-elflint accept it."""
+reference's, and `check`, readelf and eu-elflint accept it. Objects that went through `rewrite` give
+the same executable and the same map, byte for byte."""
 
 import os
 import re
@@ -95,10 +96,14 @@ def difference(shop: Workshop, objects: list[str], entry: str, base: str, page: 
     by_ld, by_elfmap = shop.answers()
     if by_ld != by_elfmap or not by_ld[1]:
         return f"by ld it is {by_ld}, by elfmap {by_elfmap}"
-    words = ["link", "--base", base, "--page", page, "--entry", entry, "--rules", RULES, *objects]
+    words = ["--base", base, "--page", page, "--entry", entry, "--rules", RULES]
     files = {it: shop.content(it) for it in [*objects, RULES]}
-    if answer(words, files) != (0, shop.content("by-elfmap"), b""):
+    if answer(["link", *words, *objects], files) != (0, shop.content("by-elfmap"), b""):
         return "the reference implementation links it otherwise"
+    changes = (shop.rewrite_changes([it, *words], objects) for it in ("link", "map"))
+    changed = next(filter(None, changes), "")
+    if changed:
+        return changed
     readers = ([PROGRAM, "check"], ["readelf", "-lW"], ["eu-elflint", "--quiet"])
     complaints = (complaint(shop, it) for it in readers)
     return next(filter(None, complaints), "")

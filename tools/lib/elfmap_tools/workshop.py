@@ -46,6 +46,28 @@ class Workshop:
             raise SystemExit(f"link {ending(made)}")
         write(f"{self.folder}/by-elfmap", made.stdout)
 
+    def rewritten(self, objects: list[str]) -> list[str]:
+        """What `rewrite` writes for objects, as files of the folder."""
+        names: list[str] = []
+        for number, it in enumerate(objects):
+            made = self.run(PROGRAM, "rewrite", it)
+            if made.returncode:
+                raise SystemExit(f"rewrite {ending(made)}")
+            names.append(f"rewritten-{number}.o")
+            write(f"{self.folder}/{names[-1]}", made.stdout)
+        return names
+
+    def rewrite_changes(self, words: list[str], objects: list[str]) -> str:
+        """What `map` or `link`, with these words, does otherwise with what `rewrite` writes: for
+        all of the objects, and for the last one alone."""
+        own = self.run(PROGRAM, *words, *objects)
+        rewritten = self.rewritten(objects)
+        for given in (rewritten, [*objects[:-1], rewritten[-1]]):
+            other = self.run(PROGRAM, *words, *given)
+            if answer_of(own) != answer_of(other):
+                return f"of {' '.join(given)}: {words[0]} {ending(other)}, and not {ending(own)}"
+        return ""
+
     def answers(self, *emulator: str) -> list[Answer]:
         """How the programs by ld and by elfmap end, and what they print."""
         programs = [f"{self.folder}/by-ld", f"{self.folder}/by-elfmap"]
