@@ -1,12 +1,19 @@
 //! Laws on files that are linked: which changes of the files change no link.
-ghost use Rattle.std.specs.Prelude.{◌↔◌, ℕ, List, ◌∷◌, ◌++◌, Option};
+ghost use Rattle.std.specs.Prelude.{◌↔◌, ◌<◌, ℕ, suc, List, ◌∷◌, ◌++◌, length, Option};
 ghost use Rattle.elf_link_field.specs.declared.rule.RelocRule.{RelocRule};
+ghost use Rattle.elf_link_files.specs.Files.{Discarded};
+ghost use Rattle.elf_link_files.specs.Rows.{FirstAt};
 ghost use Rattle.elf_link_files.specs.declared.fault.Options.{Options};
 ghost use Rattle.elf_link_files.specs.declared.inputs.SymbolId.{SymbolId};
+ghost use Rattle.elf_link_files.specs.declared.site.Site.{Site};
+ghost use Rattle.elf_link_map.specs.LinkMap.{IsLinkMap, LinkMapValue, bound_in};
+ghost use Rattle.elf_link_names.specs.Binds.{Binds, IsUnbound, input_rules};
+ghost use Rattle.elf_link_names.specs.declared.name_rules.Choice.{Choice};
 ghost use Rattle.elf_object_type.specs.Object.{ObjectValue};
 ghost use Rattle.elf_tool_check.specs.declared.calls.Verdict.{Verdict};
 ghost use Rattle.elf_tool_check.specs.declared.calls.Verdict.TheVariants.{Done};
 ghost use Rattle.elf_tool_laws.specs.Alike.{AreAlikeFiles, AreRewritten, SayTheSame};
+ghost use Rattle.elf_tool_laws.specs.Order.{AreOneBinding, AreOneRule, AreReordered, Compete, moved, swapped};
 ghost use Rattle.elf_tool_link.specs.Definitions.{IsFirstDefinition};
 ghost use Rattle.elf_tool_link.specs.Link.{FilesLink};
 ghost use Rattle.elf_tool_link.specs.Map.{MapSays};
@@ -47,4 +54,31 @@ pub fn rewritten_files()
         SayTheSame (MapSays opt rules files) (MapSays opt rules rewritten) }
     ensures link { (opt : Options) (rules : List RelocRule) (files rewritten : List (List ℕ)) → AreRewritten files rewritten →
         SayTheSame (FilesLink opt rules files) (FilesLink opt rules rewritten) }
+{}
+
+/// The files of a link in another order bind each name to the same symbol, at the new position of its file. Of two files that compete the
+/// first one has to stay the first: that is, if both have a COMDAT group of one signature, or both define one name, GLOBAL or WEAK.
+///
+/// Rule 8 refuses two GLOBAL definitions of a name. So in a link that is not refused only COMDAT groups and WEAK definitions compete, and a
+/// file without them can be at any place.
+///
+/// The way back is such a change of order too. The same sections are discarded, and the same names are unbound. Of rules 1 to 9 none is
+/// broken in both orders, or the first one that is broken is the same, maybe at another site. Two link maps, also with different options,
+/// have the same binding of a name, except for the address of a common. Two neighbours that do not compete can change places.
+pub fn other_order()
+    ensures back { (fs gs : List ObjectValue) (to back : ℕ → ℕ) → AreReordered fs gs to back → AreReordered gs fs back to }
+    ensures discarded { (fs gs : List ObjectValue) (to back : ℕ → ℕ) (f s : ℕ) → AreReordered fs gs to back → f < length fs →
+        Discarded fs f s ↔ Discarded gs (to f) s }
+    ensures bindings { (fs gs : List ObjectValue) (to back : ℕ → ℕ) (name : List ℕ) (c : Choice) → AreReordered fs gs to back →
+        Binds fs name c → Binds gs name (moved to c) }
+    ensures unbound { (fs gs : List ObjectValue) (to back : ℕ → ℕ) (name : List ℕ) → AreReordered fs gs to back →
+        IsUnbound fs name ↔ IsUnbound gs name }
+    ensures rule { (opt : Options) (fs gs : List ObjectValue) (to back : ℕ → ℕ) (x y : Option (ℕ × Site)) → AreReordered fs gs to back →
+        FirstAt (input_rules opt fs) x → FirstAt (input_rules opt gs) y → AreOneRule x y }
+    ensures maps { (opt other : Options) (fs gs : List ObjectValue) (to back : ℕ → ℕ) (m n : LinkMapValue) (name : List ℕ) →
+        AreReordered fs gs to back → IsLinkMap opt fs m → IsLinkMap other gs n →
+        AreOneBinding to (bound_in m.bindings name) (bound_in n.bindings name) }
+    ensures neighbours { (front rest : List ObjectValue) (o p : ObjectValue) →
+        ¬ Compete (front ++ o ∷ p ∷ rest) (length front) (suc (length front)) →
+        AreReordered (front ++ o ∷ p ∷ rest) (front ++ p ∷ o ∷ rest) (swapped (length front)) (swapped (length front)) }
 {}

@@ -1,8 +1,8 @@
-//! Laws on the commands of `elfmap` together: what one of them writes, and what another one says of it. Each is the contract of a function
-//! that does nothing. [`rewritten_files`] says that `rewrite` changes no link, and [`alike_files`] says it of all files that denote the
-//! same objects.
+//! Laws on the files of a link: which changes of them change nothing. Each is the contract of a function that does nothing.
+//! [`rewritten_files`] says that `rewrite` changes no link, and [`alike_files`] says it of all files that denote the same objects.
+//! [`other_order`] says which orders of the files bind each name alike.
 #![tactic(auto)]
 
 mod laws;
 
-pub use laws::{alike_files, rewritten_files};
+pub use laws::{alike_files, other_order, rewritten_files};

@@ -7,14 +7,16 @@ and where the program does not fit its addresses, ld refuses it too. The files a
 ld edits itself: strings to be merged, and .eh_frame, which is renamed. From 2^63 on ld counts
 modulo 2^64: that is left out.
 
-Objects that went through `rewrite` give the same map, byte for byte, or the same refusal."""
+Objects that went through `rewrite` give the same map, byte for byte, or the same refusal. In the
+opposite order the objects bind each name to a definition of the same kind: none of them competes.
+"""
 
 from collections import Counter
 from typing import NamedTuple
 
 from .link_map import Both
 from .suite import Tally, Test
-from .tree import RULES, Options
+from .tree import PROGRAM, RULES, Options
 from .workshop import FLAGS, Workshop
 
 PARTS = ("ld_main", "ld_part", "ld_other")
@@ -55,6 +57,13 @@ def both_of(shop: Workshop, program: Program) -> Both:
     return Both(shop, objects, program.base, program.page, RULES, ["ld", "-m", "elf_x86_64"])
 
 
+def kinds(shop: Workshop, names: list[str]) -> dict[str, str]:
+    """What each name of these objects is bound to: a kind of definition."""
+    lines = shop.wanted(PROGRAM, "map", "--base", "0x10000", "--page", "1", *names).splitlines()
+    words = [it.split() for it in lines if it.startswith("name ")]
+    return {name: kind for _, _, kind, name in words}
+
+
 def is_refused(both: Both) -> bool:
     """Whether both refuse a program that does not fit its addresses."""
     by_elfmap = both.ruled.returncode == 1 and both.ruled.stdout.startswith(b"refused 16 ")
@@ -75,6 +84,8 @@ def try_linked_like_ld(tally: Tally, options: Options) -> None:
         both = both_of(Workshop(tally.new_folder(program.title)), program)
         changed = both.shop.rewrite_changes(both.words, both.names)
         tally.check(not changed, f"{program.title}: {changed}")
+        is_alike = kinds(both.shop, both.names) == kinds(both.shop, both.names[::-1])
+        tally.check(is_alike, f"{program.title}: the opposite order binds names otherwise")
         if not program.fits:
             why = f"{program.title}: it is not refused by both: {both.ends}"
             tally.check(is_refused(both), why)
