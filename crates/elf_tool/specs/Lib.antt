@@ -6,6 +6,7 @@ pub use Rattle.elf_tool_words.specs.Words
 pub use Rattle.elf_tool_check.specs.Check
 pub use Rattle.elf_tool_program.specs.CheckSource
 pub use Rattle.elf_tool_laws.specs.Alike
+pub use Rattle.elf_tool_laws.specs.LeftOut
 pub use Rattle.elf_tool_laws.specs.Order
 pub use Rattle.elf_tool_link.specs.Inputs
 pub use Rattle.elf_tool_link.specs.Link

@@ -1,5 +1,15 @@
 -- The lemmas of this crate.
 mod Alike
+mod Insert
+mod LeftOut
+mod LeftOutExec
+mod LeftOutFiles
+mod LeftOutMap
+mod LeftOutMemory
+mod LeftOutNames
+mod LeftOutNumbers
+mod LeftOutPlans
+mod LeftOutRules
 mod Order
 mod OrderNames
 mod Swap

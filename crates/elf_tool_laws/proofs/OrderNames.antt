@@ -1,11 +1,12 @@
 -- In another order of the files each name is bound to the same symbol, and each of rules 1 to 9 is broken in both orders or in neither. So
 -- two link maps have one binding of a name, and the first rule that is broken is the same.
-use Rattle.std.proofs.Common.{◌≡◌, ◌∙◌, ◌<◌, ℕ, List, [], ◌∷◌, ap, arith, inl, inr, length, refl, subst, sym}
+use Rattle.std.proofs.Common.{◌≡◌, ◌∙◌, ◌<◌, ℕ, List, [], ◌∷◌, ◌++◌, ap, arith, inl, inr, length, refl, subst, sym}
 use Rattle.std.specs.Prelude.{MatchOption, None, Option, Some, ◌↔◌}
 use Rattle.elf_extent.specs.Extent.{Never}
 use Rattle.elf_field.specs.Abi.{SHF_LINK_ORDER, SHF_TLS, STB_GLOBAL, STB_WEAK}
 use Rattle.elf_image_rules.specs.Rows.{Ruled}
-use Rattle.elf_link_files.specs.FileRules.{HasEmptySignature, IsBadCommon, IsBadSymbol, IsLiveWith, IsMismatch, mismatch}
+use Rattle.elf_link_files.specs.FileRules.{HasEmptySignature, IsBadCommon, IsBadSymbol, IsLiveWith, IsMismatch, bad_options}
+use Rattle.elf_link_files.specs.FileRules.{link_symbol_rules, mismatch}
 use Rattle.elf_link_files.specs.Files.{IsCommon, IsEarlier, IsEntry, IsNotWeak, IsStrong, IsUndefinedAt, IsWeak, object_at, symbol_in}
 use Rattle.elf_link_files.specs.Rows.{AtEach, FirstAt, commons, entries, not_weak, section_count, site, strong, symbol_count, weak}
 use Rattle.elf_link_files.specs.declared.fault.Options.{Options}
@@ -14,7 +15,7 @@ use Rattle.elf_link_map.specs.LinkMap.{IsBinding, IsLinkMap, LinkMapValue, bound
 use Rattle.elf_link_map.specs.declared.bindings.Binding.TheVariants as bound
 use Rattle.elf_link_map.specs.declared.bindings.Binding.{Binding}
 use Rattle.elf_link_names.proofs.Public.{bound_excludes, one_choice, unbound}
-use Rattle.elf_link_names.specs.Binds.{Binds, HasEarlier, HasTwoDefinitions, IsUnbound, IsUndefinedName, input_rules}
+use Rattle.elf_link_names.specs.Binds.{Binds, HasEarlier, HasTwoDefinitions, IsUnbound, IsUndefinedName, input_rules, link_name_rules}
 use Rattle.elf_link_names.specs.declared.name_rules.Choice.TheVariants.{Strong, Common, Weak, Zero}
 use Rattle.elf_link_names.specs.declared.name_rules.Choice.{Choice}
 use Rattle.elf_link_outputs.specs.Placed.{CommonValue}
@@ -102,7 +103,7 @@ AreAsBroken [] [] = Unit {0}
 AreAsBroken [] (s ∷ others) = ⊥
 AreAsBroken (r ∷ rules) [] = ⊥
 AreAsBroken (r ∷ rules) (s ∷ others) =
-    (r.number ≡ s.number) × (Never r.row ↔ Never s.row) × AreAsBroken rules others
+    ((r.number ≡ s.number) × (Never r.row ↔ Never s.row)) × AreAsBroken rules others
 
 first_alike : (rules others : List {1} (Ruled Site)) → AreAsBroken rules others → (x y : Option (ℕ × Site)) → FirstAt rules x →
     FirstAt others y → AreOneRule x y
@@ -111,22 +112,22 @@ first_alike [] [] are None (Some g) one other = absurd other
 first_alike [] [] are (Some f) y one other = absurd one
 first_alike [] (s ∷ others) are x y one other = absurd are
 first_alike (r ∷ rules) [] are x y one other = absurd are
-first_alike (r ∷ rules) (s ∷ others) (number, never, are) None None one other = tt
-first_alike (r ∷ rules) (s ∷ others) (number, never, are) None (Some g) (none, rest) (inl (is, first)) =
+first_alike (r ∷ rules) (s ∷ others) ((number, never), are) None None one other = tt
+first_alike (r ∷ rules) (s ∷ others) ((number, never), are) None (Some g) (none, rest) (inl (is, first)) =
     absurd (never.0 none g.1 first.stands)
-first_alike (r ∷ rules) (s ∷ others) (number, never, are) None (Some g) (none, rest) (inr (also, later)) =
+first_alike (r ∷ rules) (s ∷ others) ((number, never), are) None (Some g) (none, rest) (inr (also, later)) =
     first_alike rules others are None (Some g) rest later
-first_alike (r ∷ rules) (s ∷ others) (number, never, are) (Some f) None (inl (is, first)) (none, rest) =
+first_alike (r ∷ rules) (s ∷ others) ((number, never), are) (Some f) None (inl (is, first)) (none, rest) =
     absurd (never.1 none f.1 first.stands)
-first_alike (r ∷ rules) (s ∷ others) (number, never, are) (Some f) None (inr (also, later)) (none, rest) =
+first_alike (r ∷ rules) (s ∷ others) ((number, never), are) (Some f) None (inr (also, later)) (none, rest) =
     first_alike rules others are (Some f) None later rest
-first_alike (r ∷ rules) (s ∷ others) (number, never, are) (Some f) (Some g) (inl (is, first)) (inl (also, other)) =
+first_alike (r ∷ rules) (s ∷ others) ((number, never), are) (Some f) (Some g) (inl (is, first)) (inl (also, other)) =
     is ∙ number ∙ sym also
-first_alike (r ∷ rules) (s ∷ others) (number, never, are) (Some f) (Some g) (inl (is, first)) (inr (none, later)) =
+first_alike (r ∷ rules) (s ∷ others) ((number, never), are) (Some f) (Some g) (inl (is, first)) (inr (none, later)) =
     absurd (never.1 none f.1 first.stands)
-first_alike (r ∷ rules) (s ∷ others) (number, never, are) (Some f) (Some g) (inr (none, later)) (inl (also, other)) =
+first_alike (r ∷ rules) (s ∷ others) ((number, never), are) (Some f) (Some g) (inr (none, later)) (inl (also, other)) =
     absurd (never.0 none g.1 other.stands)
-first_alike (r ∷ rules) (s ∷ others) (number, never, are) (Some f) (Some g) (inr (none, later)) (inr (never_here, rest)) =
+first_alike (r ∷ rules) (s ∷ others) ((number, never), are) (Some f) (Some g) (inr (none, later)) (inr (never_here, rest)) =
     first_alike rules others are (Some f) (Some g) later rest
 
 module _ (fs gs : List ObjectValue) (to back : ℕ → ℕ) (r : AreReordered fs gs to back) where
@@ -174,51 +175,33 @@ module _ (opt : Options) (fs gs : List ObjectValue) (to back : ℕ → ℕ) (r :
   both count P Q move return =
       (never_moved fs gs to back r count P Q return, never_moved gs fs back to back_again count Q P move)
 
+  symbols_as_broken : AreAsBroken (link_symbol_rules fs ++ link_name_rules fs) (link_symbol_rules gs ++ link_name_rules gs)
+  symbols_as_broken =
+      let symbol = both symbol_count (λ f i. IsBadSymbol (symbol_in fs f i)) (λ f i. IsBadSymbol (symbol_in gs f i))
+      (symbol_moved fs gs to back r IsBadSymbol) (symbol_moved gs fs back to back_again IsBadSymbol) in
+      let common = both symbol_count (λ f i. IsBadCommon (symbol_in fs f i)) (λ f i. IsBadCommon (symbol_in gs f i))
+      (symbol_moved fs gs to back r IsBadCommon) (symbol_moved gs fs back to back_again IsBadCommon) in
+      let twice = both symbol_count (HasTwoDefinitions fs) (HasTwoDefinitions gs) (two_moved fs gs to back r)
+      (two_moved gs fs back to back_again) in
+      let undefined = both symbol_count (IsUndefinedName fs) (IsUndefinedName gs) (undefined_name_moved fs gs to back r)
+      (undefined_name_moved gs fs back to back_again) in
+      ((refl, symbol), ((refl, common), ((refl, twice), ((refl, undefined), tt))))
+
+  mismatch_both : Never (mismatch fs) ↔ Never (mismatch gs)
+  mismatch_both = (no_mismatches fs gs to back r, no_mismatches gs fs back to back_again)
+
+  options_both : Never (bad_options opt) ↔ Never (bad_options opt)
+  options_both = ((λ never. never), (λ never. never))
+
   as_broken : AreAsBroken (input_rules opt fs) (input_rules opt gs)
-  as_broken = (
-    refl,
-    ((λ never. never), (λ never. never)),
-    (
-      refl,
-      (no_mismatches fs gs to back r, no_mismatches gs fs back to back_again),
-      (
-        refl,
-        both section_count (IsLiveWith SHF_TLS fs) (IsLiveWith SHF_TLS gs) (live_with_moved fs gs to back r SHF_TLS)
-            (live_with_moved gs fs back to back_again SHF_TLS),
-        (
-          refl,
-          both section_count (IsLiveWith SHF_LINK_ORDER fs) (IsLiveWith SHF_LINK_ORDER gs)
-              (live_with_moved fs gs to back r SHF_LINK_ORDER) (live_with_moved gs fs back to back_again SHF_LINK_ORDER),
-          (
-            refl,
-            both section_count (HasEmptySignature fs) (HasEmptySignature gs) (empty_moved fs gs to back r)
-                (empty_moved gs fs back to back_again),
-            (
-              refl,
-              both symbol_count (λ f i. IsBadSymbol (symbol_in fs f i)) (λ f i. IsBadSymbol (symbol_in gs f i))
-                  (symbol_moved fs gs to back r IsBadSymbol) (symbol_moved gs fs back to back_again IsBadSymbol),
-              (
-                refl,
-                both symbol_count (λ f i. IsBadCommon (symbol_in fs f i)) (λ f i. IsBadCommon (symbol_in gs f i))
-                    (symbol_moved fs gs to back r IsBadCommon) (symbol_moved gs fs back to back_again IsBadCommon),
-                (
-                  refl,
-                  both symbol_count (HasTwoDefinitions fs) (HasTwoDefinitions gs) (two_moved fs gs to back r)
-                      (two_moved gs fs back to back_again),
-                  (
-                    refl,
-                    both symbol_count (IsUndefinedName fs) (IsUndefinedName gs) (undefined_name_moved fs gs to back r)
-                        (undefined_name_moved gs fs back to back_again),
-                    tt,
-                  ),
-                ),
-              ),
-            ),
-          ),
-        ),
-      ),
-    ),
-  )
+  as_broken =
+      let tls = both section_count (IsLiveWith SHF_TLS fs) (IsLiveWith SHF_TLS gs) (live_with_moved fs gs to back r SHF_TLS)
+      (live_with_moved gs fs back to back_again SHF_TLS) in
+      let ordered = both section_count (IsLiveWith SHF_LINK_ORDER fs) (IsLiveWith SHF_LINK_ORDER gs)
+      (live_with_moved fs gs to back r SHF_LINK_ORDER) (live_with_moved gs fs back to back_again SHF_LINK_ORDER) in
+      let signature = both section_count (HasEmptySignature fs) (HasEmptySignature gs) (empty_moved fs gs to back r)
+      (empty_moved gs fs back to back_again) in
+      ((refl, options_both), ((refl, mismatch_both), ((refl, tls), ((refl, ordered), ((refl, signature), symbols_as_broken)))))
 
   pub one_rule : (x y : Option (ℕ × Site)) → FirstAt (input_rules opt fs) x → FirstAt (input_rules opt gs) y → AreOneRule x y
   one_rule = first_alike (input_rules opt fs) (input_rules opt gs) as_broken

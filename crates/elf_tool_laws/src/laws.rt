@@ -1,18 +1,21 @@
 //! Laws on files that are linked: which changes of the files change no link.
-ghost use Rattle.std.specs.Prelude.{◌↔◌, ◌<◌, ℕ, suc, List, ◌∷◌, ◌++◌, length, Option};
+ghost use Rattle.std.specs.Prelude.{◌≡◌, ◌≢◌, ◌↔◌, ◌<◌, ℕ, suc, List, ◌∷◌, ◌++◌, length, map, None, Option};
 ghost use Rattle.elf_link_field.specs.declared.rule.RelocRule.{RelocRule};
 ghost use Rattle.elf_link_files.specs.Files.{Discarded};
 ghost use Rattle.elf_link_files.specs.Rows.{FirstAt};
 ghost use Rattle.elf_link_files.specs.declared.fault.Options.{Options};
 ghost use Rattle.elf_link_files.specs.declared.inputs.SymbolId.{SymbolId};
 ghost use Rattle.elf_link_files.specs.declared.site.Site.{Site};
-ghost use Rattle.elf_link_map.specs.LinkMap.{IsLinkMap, LinkMapValue, bound_in};
+ghost use Rattle.elf_link_map.specs.LinkMap.{FirstOfLink, IsLinkMap, LinkMapValue, bound_in};
 ghost use Rattle.elf_link_names.specs.Binds.{Binds, IsUnbound, input_rules};
+ghost use Rattle.elf_link_names.specs.declared.name_rules.Choice.TheVariants.{Zero};
 ghost use Rattle.elf_link_names.specs.declared.name_rules.Choice.{Choice};
-ghost use Rattle.elf_object_type.specs.Object.{ObjectValue};
+ghost use Rattle.elf_object_type.specs.Object.{ObjectValue, SymbolValue};
 ghost use Rattle.elf_tool_check.specs.declared.calls.Verdict.{Verdict};
 ghost use Rattle.elf_tool_check.specs.declared.calls.Verdict.TheVariants.{Done};
 ghost use Rattle.elf_tool_laws.specs.Alike.{AreAlikeFiles, AreRewritten, SayTheSame};
+ghost use Rattle.elf_tool_laws.specs.LeftOut.{AreLessSymbols, IsBindingAfter, IsUnneeded, LeavesOut, as_before};
+ghost use Rattle.elf_tool_laws.specs.LeftOut.{inserted_at, section_by, with_bindings};
 ghost use Rattle.elf_tool_laws.specs.Order.{AreOneBinding, AreOneRule, AreReordered, Compete, moved, swapped};
 ghost use Rattle.elf_tool_link.specs.Definitions.{IsFirstDefinition};
 ghost use Rattle.elf_tool_link.specs.Link.{FilesLink};
@@ -81,4 +84,33 @@ pub fn other_order()
     ensures neighbours { (front rest : List ObjectValue) (o p : ObjectValue) →
         ¬ Compete (front ++ o ∷ p ∷ rest) (length front) (suc (length front)) →
         AreReordered (front ++ o ∷ p ∷ rest) (front ++ p ∷ o ∷ rest) (swapped (length front)) (swapped (length front)) }
+{}
+
+/// Symbols that nothing needs may be left out of the objects of a link: those that are defined nowhere or local, and that no relocation and
+/// no group of their object refers to. `strip --strip-unneeded` leaves out such symbols.
+///
+/// If none of rules 1 to 11 of the link is broken with these symbols, none is without them. Then the link map is the same, but for the
+/// bindings of names, and `link` writes the same executable, byte for byte. Or it refuses the same relocation by the same rule of 12 to 16,
+/// or the same executable as too long. Each name is bound to the same definition or common, at its new position. A name that was bound to
+/// zero may have no symbol any more. The other way round such a symbol may be inserted at any position, if the references to later ones
+/// count it.
+pub fn left_out_symbols()
+    ensures discarded { (fs gs : List ObjectValue) (at : ℕ → ℕ → ℕ) (f s : ℕ) → AreLessSymbols fs gs at →
+        Discarded fs f s ↔ Discarded gs f s }
+    ensures bindings { (fs gs : List ObjectValue) (at : ℕ → ℕ → ℕ) (name : List ℕ) (c : Choice) → AreLessSymbols fs gs at → c ≢ Zero →
+        Binds gs name c → Binds fs name (as_before at c) }
+    ensures rules { (opt : Options) (fs gs : List ObjectValue) (at : ℕ → ℕ → ℕ) (m : LinkMapValue) (x : Option (ℕ × Site)) →
+        AreLessSymbols fs gs at → FirstOfLink opt fs None → IsLinkMap opt fs m → FirstOfLink opt gs x → x ≡ None }
+    ensures names { (opt other : Options) (fs gs : List ObjectValue) (at : ℕ → ℕ → ℕ) (m n : LinkMapValue) (name : List ℕ) →
+        AreLessSymbols fs gs at → IsLinkMap opt fs m → IsLinkMap other gs n →
+        IsBindingAfter at (bound_in m.bindings name) (bound_in n.bindings name) }
+    ensures map { (opt : Options) (fs gs : List ObjectValue) (at : ℕ → ℕ → ℕ) (m n : LinkMapValue) → AreLessSymbols fs gs at →
+        IsLinkMap opt fs m → IsLinkMap opt gs n → m ≡ with_bindings n m.bindings }
+    ensures link { (opt : Options) (rules : List RelocRule) (files others : List (List ℕ)) (fs gs : List ObjectValue) (at : ℕ → ℕ → ℕ)
+        (v w : Verdict) (s t : List ℕ) → AreObjectFiles files fs → AreObjectFiles others gs → AreLessSymbols fs gs at →
+        FirstOfLink opt fs None → FilesLink opt rules files v s → FilesLink opt rules others w t → (v ≡ w) × (s ≡ t) }
+    ensures insert { (p : ObjectValue) (front rest : List SymbolValue) (s : SymbolValue) → p.symbols ≡ front ++ rest → IsUnneeded s →
+        LeavesOut
+        (record p { sections = map (section_by (inserted_at (length front))) p.sections; symbols = front ++ s ∷ rest }) p
+        (inserted_at (length front)) }
 {}

@@ -82,7 +82,7 @@ def try_linked_like_ld(tally: Tally, options: Options) -> None:
     totals = Counter[str]()
     for program in PROGRAMS:
         both = both_of(Workshop(tally.new_folder(program.title)), program)
-        changed = both.shop.rewrite_changes(both.words, both.names)
+        changed = both.shop.changes(both.words, both.names, both.shop.rewritten(both.names))
         tally.check(not changed, f"{program.title}: {changed}")
         is_alike = kinds(both.shop, both.names) == kinds(both.shop, both.names[::-1])
         tally.check(is_alike, f"{program.title}: the opposite order binds names otherwise")

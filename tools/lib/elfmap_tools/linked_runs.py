@@ -1,7 +1,8 @@
 """`tools/test linked-runs`: programs run the same by ld and by elfmap: of C, of C++, and of C over
 Debian's klibc, which has the objects of its archive that it needs. Each executable is the
 reference's, and `check`, readelf and eu-elflint accept it. Objects that went through `rewrite` give
-the same executable and the same map, byte for byte."""
+the same executable and the same map, byte for byte. Objects without unneeded symbols give the same
+executable."""
 
 import os
 import re
@@ -100,8 +101,12 @@ def difference(shop: Workshop, objects: list[str], entry: str, base: str, page: 
     files = {it: shop.content(it) for it in [*objects, RULES]}
     if answer(["link", *words, *objects], files) != (0, shop.content("by-elfmap"), b""):
         return "the reference implementation links it otherwise"
-    changes = (shop.rewrite_changes([it, *words], objects) for it in ("link", "map"))
-    changed = next(filter(None, changes), "")
+    rewritten = shop.rewritten(objects)
+    changed = (
+        shop.changes(["link", *words], objects, rewritten)
+        or shop.changes(["map", *words], objects, rewritten)
+        or shop.changes(["link", *words], objects, shop.stripped(objects))
+    )
     if changed:
         return changed
     readers = ([PROGRAM, "check"], ["readelf", "-lW"], ["eu-elflint", "--quiet"])
@@ -112,7 +117,7 @@ def difference(shop: Workshop, objects: list[str], entry: str, base: str, page: 
 @Test(
     "linked-runs",
     "programs run the same by ld and by elfmap",
-    f"gcc g++ ld ar readelf eu-elflint {KLIBC}",
+    f"gcc g++ ld ar objcopy readelf eu-elflint {KLIBC}",
     "elfmap",
     family="linked",
 )

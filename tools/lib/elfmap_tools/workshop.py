@@ -57,16 +57,22 @@ class Workshop:
             write(f"{self.folder}/{names[-1]}", made.stdout)
         return names
 
-    def rewrite_changes(self, words: list[str], objects: list[str]) -> str:
-        """What `map` or `link`, with these words, does otherwise with what `rewrite` writes: for
-        all of the objects, and for the last one alone."""
+    def changes(self, words: list[str], objects: list[str], others: list[str]) -> str:
+        """What `map` or `link`, with these words, does otherwise with the other objects in place of
+        these: with all of them, and with the last one alone."""
         own = self.run(PROGRAM, *words, *objects)
-        rewritten = self.rewritten(objects)
-        for given in (rewritten, [*objects[:-1], rewritten[-1]]):
+        for given in (others, [*objects[:-1], others[-1]]):
             other = self.run(PROGRAM, *words, *given)
             if answer_of(own) != answer_of(other):
                 return f"of {' '.join(given)}: {words[0]} {ending(other)}, and not {ending(own)}"
         return ""
+
+    def stripped(self, objects: list[str]) -> list[str]:
+        """Objects without the symbols that objcopy finds unneeded, as files of the folder."""
+        names = [f"stripped-{number}.o" for number in range(len(objects))]
+        for name, it in zip(names, objects):
+            self.wanted("objcopy", "--strip-unneeded", it, name)
+        return names
 
     def answers(self, *emulator: str) -> list[Answer]:
         """How the programs by ld and by elfmap end, and what they print."""
