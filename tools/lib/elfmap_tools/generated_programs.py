@@ -7,7 +7,8 @@ A step adds to a register a number, a word of memory, what a pointer leads to, o
 name, or adds the register to a word; then it goes to the next step, in another section, or another
 file. So the status depends on where words, commons, weak and absolute names and groups that are in
 two files come to, and on each relocated field. What is written is the executable of the reference
-implementation, byte for byte, and `elfmap check` accepts it."""
+implementation, byte for byte, and `elfmap check` accepts it. Objects that went through `rewrite`,
+or have lost their unneeded symbols, give the same executable."""
 
 import os
 import random
@@ -18,6 +19,7 @@ from .reference import answer
 from .suite import Tally, Test, by_chance
 from .tree import PROGRAM, RULES, Options, answer_of, ending, read_bytes, run, wanted, write
 from .tries import count_tries
+from .workshop import Workshop
 
 ABOUT = "programs of chance objects, linked and run"
 ASSEMBLER = "x86_64-linux-gnu-as"
@@ -195,10 +197,16 @@ def wrong_program(seed: int, k: int, folder: str) -> str:
         source = write(f"{folder}/{name}.s", "\n".join([*lines, ""]))
         wanted(ASSEMBLER, source, "-o", f"{folder}/{name}")
         files[name] = read_bytes(f"{folder}/{name}")
-    words = ["link", "--base", base, "--page", page, "--entry", "main", "--rules", RULES, *files]
-    ended = run(PROGRAM, *words, folder=folder)
-    if ended.returncode or answer_of(ended) != answer(words, {**files, RULES: read_bytes(RULES)}):
+    words = ["link", "--base", base, "--page", page, "--entry", "main", "--rules", RULES]
+    ended = run(PROGRAM, *words, *files, folder=folder)
+    by_reference = answer([*words, *files], {**files, RULES: read_bytes(RULES)})
+    if ended.returncode or answer_of(ended) != by_reference:
         return f"link {ending(ended)}, or the reference implementation links it otherwise"
+    shop = Workshop(folder)
+    for others in (shop.rewritten([*files]), shop.stripped([*files])):
+        changed = shop.changes(words, [*files], others)
+        if changed:
+            return changed
     program = write(f"{folder}/program", ended.stdout)
     if run(PROGRAM, "check", program).returncode:
         return "what is linked is refused"
@@ -211,7 +219,7 @@ def wrong_program(seed: int, k: int, folder: str) -> str:
 @Test(
     "generated-programs",
     ABOUT,
-    ASSEMBLER,
+    f"{ASSEMBLER} objcopy",
     "elfmap",
     alone=True,
     family="linked",
