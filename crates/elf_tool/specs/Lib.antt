@@ -5,6 +5,7 @@ pub use Rattle.elf_tool_check.specs.Ending
 pub use Rattle.elf_tool_words.specs.Words
 pub use Rattle.elf_tool_check.specs.Check
 pub use Rattle.elf_tool_program.specs.CheckSource
+pub use Rattle.elf_tool_laws.specs.Agree
 pub use Rattle.elf_tool_laws.specs.Alike
 pub use Rattle.elf_tool_laws.specs.LeftOut
 pub use Rattle.elf_tool_laws.specs.Order

@@ -1,4 +1,5 @@
 -- The lemmas of this crate.
+mod Agree
 mod Alike
 mod Insert
 mod LeftOut

@@ -1,5 +1,5 @@
 //! Laws on files that are linked: which changes of the files change no link.
-ghost use Rattle.std.specs.Prelude.{◌≡◌, ◌≢◌, ◌↔◌, ◌<◌, ℕ, suc, List, ◌∷◌, ◌++◌, length, map, None, Option};
+ghost use Rattle.std.specs.Prelude.{◌≡◌, ◌≢◌, ◌↔◌, ◌<◌, ℕ, suc, List, ◌∷◌, ◌++◌, length, map, None, Option, Some};
 ghost use Rattle.elf_link_field.specs.declared.rule.RelocRule.{RelocRule};
 ghost use Rattle.elf_link_files.specs.Files.{Discarded};
 ghost use Rattle.elf_link_files.specs.Rows.{FirstAt};
@@ -13,6 +13,7 @@ ghost use Rattle.elf_link_names.specs.declared.name_rules.Choice.{Choice};
 ghost use Rattle.elf_object_type.specs.Object.{ObjectValue, SymbolValue};
 ghost use Rattle.elf_tool_check.specs.declared.calls.Verdict.{Verdict};
 ghost use Rattle.elf_tool_check.specs.declared.calls.Verdict.TheVariants.{Done};
+ghost use Rattle.elf_tool_laws.specs.Agree.{but_length};
 ghost use Rattle.elf_tool_laws.specs.Alike.{AreAlikeFiles, AreRewritten, SayTheSame};
 ghost use Rattle.elf_tool_laws.specs.LeftOut.{AreLessSymbols, IsBindingAfter, IsUnneeded, LeavesOut, as_before};
 ghost use Rattle.elf_tool_laws.specs.LeftOut.{inserted_at, section_by, with_bindings};
@@ -23,6 +24,20 @@ ghost use Rattle.elf_tool_link.specs.Map.{MapSays};
 ghost use Rattle.elf_tool_link.specs.ObjectFiles.{AreObjectFiles, IsFirstRefused};
 ghost use Rattle.elf_tool_link.specs.Verdicts.{IsLinkVerdict};
 ghost use Rattle.elf_tool_rewrite.specs.Rewrite.{RewriteSays};
+
+/// `map`, `link`, and the verdict on a link alone agree. There is one verdict on files: the first file that is refused; or else the first
+/// rule of the link that is broken; or else that none is. `map` has it. With the same relocation rules `link` has it too, unless the
+/// executable is too long for a file.
+pub fn one_verdict()
+    ensures one { (opt : Options) (rules : Option (List RelocRule)) (files : List (List ℕ)) (v w : Verdict) →
+        IsLinkVerdict opt rules files v → IsLinkVerdict opt rules files w → v ≡ w }
+    ensures map { (opt : Options) (rules : Option (List RelocRule)) (files : List (List ℕ)) (v : Verdict) (s : List ℕ) →
+        MapSays opt rules files v s → IsLinkVerdict opt rules files v }
+    ensures link { (opt : Options) (rules : List RelocRule) (files : List (List ℕ)) (v : Verdict) (s : List ℕ) →
+        FilesLink opt rules files v s → IsLinkVerdict opt (Some rules) files (but_length v) }
+    ensures both { (opt : Options) (rules : List RelocRule) (files : List (List ℕ)) (v w : Verdict) (s t : List ℕ) →
+        MapSays opt (Some rules) files v s → FilesLink opt rules files w t → v ≡ but_length w }
+{}
 
 /// Files that are alike have the same link: at each position the two files have the same bytes, or they denote one object.
 ///
