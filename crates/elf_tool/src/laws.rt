@@ -1,6 +1,7 @@
 //! The laws on commands: each has one verdict and one text for its input. The executable of files is an image that loads the memory of
-//! their link, and `rewrite` changes no link ([`rewritten_files`]). A file of relocation rules gives at most one list of them or one bad
-//! line. Each is the contract of a function that does nothing, and the program does without them. Begin with [`one_check`].
+//! their link, and a file of relocation rules gives at most one list of them or one bad line. The commands agree ([`checked_files`],
+//! [`one_verdict`]), and `rewrite` changes no link ([`rewritten_files`]). Each is the contract of a function that does nothing, and the
+//! program does without them. Begin with [`one_check`].
 ghost use Rattle.std.specs.Prelude.{◌≡◌, ◌<◌, ◌^◌, ℕ, List, Option};
 ghost use Rattle.elf_field.specs.Bytes.{IsBytes};
 ghost use Rattle.elf_exec.specs.Executable.{ExecFits, LoadsLink};
@@ -17,7 +18,9 @@ ghost use Rattle.elf_tool_rewrite.specs.Rewrite.{RewriteSays};
 ghost use Rattle.elf_tool_rule_file.specs.RuleFile.{AreRules, IsBadLine};
 ghost use Rattle.elf_tool_show.specs.Show.{ShowSays};
 
-pub use elf_tool_laws::{alike_files, left_out_symbols, one_verdict, other_order, rewritten_files};
+pub use elf_tool_laws::{
+    alike_files, checked_files, left_out_symbols, one_verdict, other_order, rewritten_files,
+};
 
 /// `check` has at most one verdict and one text for the bytes of a file, and cannot be without one.
 pub fn one_check()

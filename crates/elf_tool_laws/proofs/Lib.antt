@@ -1,6 +1,7 @@
 -- The lemmas of this crate.
 mod Agree
 mod Alike
+mod Checked
 mod Insert
 mod LeftOut
 mod LeftOutExec

@@ -1,4 +1,4 @@
-//! Laws on files that are linked: which changes of the files change no link.
+//! Laws on files and the commands together: on which the commands agree, and which changes of the files of a link change nothing.
 ghost use Rattle.std.specs.Prelude.{◌≡◌, ◌≢◌, ◌↔◌, ◌<◌, ℕ, suc, List, ◌∷◌, ◌++◌, length, map, None, Option, Some};
 ghost use Rattle.elf_link_field.specs.declared.rule.RelocRule.{RelocRule};
 ghost use Rattle.elf_link_files.specs.Files.{Discarded};
@@ -11,8 +11,10 @@ ghost use Rattle.elf_link_names.specs.Binds.{Binds, IsUnbound, input_rules};
 ghost use Rattle.elf_link_names.specs.declared.name_rules.Choice.TheVariants.{Zero};
 ghost use Rattle.elf_link_names.specs.declared.name_rules.Choice.{Choice};
 ghost use Rattle.elf_object_type.specs.Object.{ObjectValue, SymbolValue};
+ghost use Rattle.elf_tool_check.specs.Check.{CheckSays};
+ghost use Rattle.elf_tool_check.specs.declared.calls.Refusal.TheVariants.{File};
 ghost use Rattle.elf_tool_check.specs.declared.calls.Verdict.{Verdict};
-ghost use Rattle.elf_tool_check.specs.declared.calls.Verdict.TheVariants.{Done};
+ghost use Rattle.elf_tool_check.specs.declared.calls.Verdict.TheVariants.{Done, Refused};
 ghost use Rattle.elf_tool_laws.specs.Agree.{but_length};
 ghost use Rattle.elf_tool_laws.specs.Alike.{AreAlikeFiles, AreRewritten, SayTheSame};
 ghost use Rattle.elf_tool_laws.specs.LeftOut.{AreLessSymbols, IsBindingAfter, IsUnneeded, LeavesOut, as_before};
@@ -24,6 +26,21 @@ ghost use Rattle.elf_tool_link.specs.Map.{MapSays};
 ghost use Rattle.elf_tool_link.specs.ObjectFiles.{AreObjectFiles, IsFirstRefused};
 ghost use Rattle.elf_tool_link.specs.Verdicts.{IsLinkVerdict};
 ghost use Rattle.elf_tool_rewrite.specs.Rewrite.{RewriteSays};
+ghost use Rattle.elf_tool_show.specs.Show.{ShowSays};
+
+/// `check` and the other commands agree on a file. `show` has the verdict of `check`. What `check` refuses, `rewrite` refuses by the same
+/// rule at the same offset, and so do `map` and `link`, if all files before it are objects ([`one_verdict`]). What `rewrite` and `link`
+/// write, `check` accepts.
+pub fn checked_files()
+    ensures show { (b : List ℕ) (v w : Verdict) (s t : List ℕ) → CheckSays b v s → ShowSays b w t → v ≡ w }
+    ensures rewrite { (b : List ℕ) (v w : Verdict) (s t : List ℕ) → v ≢ Done → CheckSays b v s → RewriteSays b w t → v ≡ w }
+    ensures link { (opt : Options) (rules : Option (List RelocRule)) (front files : List (List ℕ)) (fs : List ObjectValue) (b s : List ℕ)
+        (file rule at : ℕ) → AreObjectFiles front fs → CheckSays b (Refused (File file rule at)) s →
+        IsLinkVerdict opt rules (front ++ b ∷ files) (Refused (File (length front) rule at)) }
+    ensures rewritten { (b c s : List ℕ) (v : Verdict) → RewriteSays b Done c → CheckSays c v s → v ≡ Done }
+    ensures linked { (opt : Options) (rules : List RelocRule) (files : List (List ℕ)) (b s : List ℕ) (v : Verdict) →
+        FilesLink opt rules files Done b → CheckSays b v s → v ≡ Done }
+{}
 
 /// `map`, `link`, and the verdict on a link alone agree. There is one verdict on files: the first file that is refused; or else the first
 /// rule of the link that is broken; or else that none is. `map` has it. With the same relocation rules `link` has it too, unless the
