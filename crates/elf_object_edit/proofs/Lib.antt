@@ -1,0 +1,2 @@
+mod Edited
+mod Positions
