@@ -12,7 +12,7 @@ use Rattle.std.proofs.Math.Seq.{get_or-append_seam}
 use Rattle.elf_object_edit.specs.Without.{new_position, stays}
 
 -- the positions up to i + 1 are those up to i, and i
-range_more : (i : ℕ) → range_with_len 0 (i + 1) ≡ range_with_len 0 i ++ i ∷ []
+pub range_more : (i : ℕ) → range_with_len 0 (i + 1) ≡ range_with_len 0 i ++ i ∷ []
 range_more i =
     sym (map-id (range_with_len 0 (i + 1))) ∙ map-range_with_len_more (λ (x : ℕ). x) 0 i i (zero-add i) ∙
     ap (λ (xs : List ℕ). xs ++ i ∷ []) (map-id (range_with_len 0 i))
@@ -36,7 +36,7 @@ true_unless true never = refl
 true_unless false never = absurd (never refl)
 
 -- one more position
-passing_one : (p : ℕ → Bool) (i : ℕ) → p i ≡ true → passing p (i + 1) ≡ passing p i ++ i ∷ []
+pub passing_one : (p : ℕ → Bool) (i : ℕ) → p i ≡ true → passing p (i + 1) ≡ passing p i ++ i ∷ []
 passing_one p i is =
     let one : filter p (i ∷ []) ≡ i ∷ [] = rw is refl in
     filter_next p i ∙ ap (λ (xs : List ℕ). passing p i ++ xs) one
@@ -95,6 +95,12 @@ mapped_next {X} {V} view D p i items x done same is =
     map-append view items (x ∷ []) ∙ ap (λ (vs : List V). vs ++ view x ∷ []) done ∙
     ap (λ (v : V). map D (passing p i) ++ v ∷ []) same ∙ sym (map-append D (passing p i) (i ∷ [])) ∙
     ap (λ (is : List ℕ). map D is) (sym (passing_one p i is))
+
+-- numbers, which have no view
+pub taken_next : (D : ℕ → ℕ) (p : ℕ → Bool) (i : ℕ) (items : List ℕ) (x : ℕ) →
+    items ≡ map D (passing p i) → x ≡ D i → p i ≡ true → items ++ x ∷ [] ≡ map D (passing p (i + 1))
+taken_next D p i items x done same is =
+    sym (map-id (items ++ x ∷ [])) ∙ mapped_next (λ (y : ℕ). y) D p i items x (map-id items ∙ done) same is
 
 pub mapped_passed : {V : Type 0} (D : ℕ → V) (p : ℕ → Bool) (i : ℕ) → p i ≡ false → map D (passing p i) ≡ map D (passing p (i + 1))
 mapped_passed D p i is = ap (λ (is : List ℕ). map D is) (sym (passing_other p i is))

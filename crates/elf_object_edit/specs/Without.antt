@@ -195,6 +195,13 @@ pub record ArePositions (marks : List Bool) (positions : List ℕ) : Type 0 wher
   pub long : length positions ≡ length marks + 1
   pub right : positions ≡ map (new_position marks) (range_with_len 0 (length marks + 1))
 
+-- where names end, of those that stay; none, if that is not known of any
+abbrev pub moved_ends : List Bool → List ℕ → List ℕ
+moved_ends marks ends = map (λ k. get_or ends k 0) (staying marks)
+
+abbrev pub AreMovedEnds : List Bool → List ℕ → List ℕ → Type 0
+AreMovedEnds marks ends moved = (moved ≡ []) ⊎ (moved ≡ moved_ends marks ends)
+
 -- the lowest index with this property, or none
 abbrev pub IsLowestIndex : (ℕ → Type 0) → Option ℕ → Type 0
 IsLowestIndex P None = (k : ℕ) → P k → ⊥

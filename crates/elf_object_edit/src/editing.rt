@@ -6,7 +6,7 @@ ghost use Rattle.elf_object_edit.specs.Without.{staying_sections as staying_sect
 use crate::fault::WithoutFault;
 use crate::references::{Edit, symbol_at};
 use crate::staying::{Staying, stays};
-use elf_object_type::{NameEnds, Object, Place, kept_object};
+use elf_object_type::{NameEnds, Object, Place, kept_object, section_ends, symbol_ends};
 use std::alloc::{AllocError, Global};
 
 /// A mark for each section: whether it stays.
@@ -81,9 +81,10 @@ pub fn without<'a>(
         return Err(WithoutFault::Dangling { section, reference });
     }
     let parts = edit.parts(alloc)?;
+    // A writer compares long names by their ends.
     let ends = NameEnds {
-        symbols: Vec::new(alloc),
-        sections: Vec::new(alloc),
+        symbols: edit.symbols.ends(alloc, symbol_ends(object))?,
+        sections: edit.sections.ends(alloc, section_ends(object))?,
     };
     object.prove_rules();
     Ok(kept_object(parts, ends))

@@ -7,9 +7,11 @@
 
 mod editing;
 mod fault;
+mod laws;
 mod moving;
 mod references;
 mod staying;
 
 pub use editing::without;
 pub use fault::{Reference, WithoutFault};
+pub use laws::nothing_left_out;

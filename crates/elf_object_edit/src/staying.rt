@@ -1,6 +1,6 @@
 //! Which sections, or symbols, of an object stay, and their new positions.
-ghost use Rattle.std.specs.Prelude.{◌≡◌, ◌↔◌, IfOk, IsTrue, option_map};
-ghost use Rattle.elf_object_edit.specs.Without.{ArePositions, IsLeftOut, new_position, stays as stays_of};
+ghost use Rattle.std.specs.Prelude.{◌≡◌, ◌↔◌, IfOk, IsTrue, get_or, option_map};
+ghost use Rattle.elf_object_edit.specs.Without.{AreMovedEnds, ArePositions, IsLeftOut, new_position, stays as stays_of};
 
 use std::alloc::{AllocError, Global};
 
@@ -40,6 +40,16 @@ fn positions(alloc: Global, marks: &[bool]) -> Result<Vec<usize>, AllocError>
     Ok(positions)
 }
 
+/// Where the name at position `i` ends, 0 if that is not known.
+fn end_at(ends: &[u32], i: usize) -> u32
+    ensures { result ≡ get_or ends.now i 0 }
+{
+    match ends.get(i) {
+        Some(end) => *end,
+        None => 0,
+    }
+}
+
 impl Staying {
     /// What stays by these marks.
     pub(crate) fn new(alloc: Global, marks: Vec<bool>) -> Result<Staying, AllocError>
@@ -71,6 +81,22 @@ impl Staying {
         ensures { result ≡ new_position self.now.marks.items p }
     {
         self.positions[p.min(self.marks.len())]
+    }
+
+    /// Where names end, of those that stay; none, if that is not known of any.
+    pub(crate) fn ends(&self, alloc: Global, ends: &[u32]) -> Result<Vec<u32>, AllocError>
+        ensures { IfOk result (λ moved. AreMovedEnds self.now.marks.items ends.now moved.items) }
+    {
+        let mut moved = Vec::new(alloc);
+        if ends.is_empty() {
+            return Ok(moved);
+        }
+        for i in 0..self.marks.len() {
+            if self.stays(i) {
+                moved.push(end_at(ends, i))?;
+            }
+        }
+        Ok(moved)
     }
 
     /// The new position of what is named.
