@@ -12,15 +12,19 @@ use Rattle.std.proofs.lemmas.Option.{slice_get-get_or}
 use Rattle.elf_field.specs.Abi.{SHF_GROUP}
 use Rattle.elf_object_edit.proofs.Positions.{IsListed, listed, one_place, places_ascend, stands_at, stays_there, true_unless}
 use Rattle.elf_object_edit.specs.Without.{IsLeftOut, NoneDangles, body_entries, has_staying_place, moved_body, moved_info, moved_place}
-use Rattle.elf_object_edit.specs.Without.{moved_relocation, moved_section, moved_symbol, new_position, body_signature, staying, staying_symbols}
+use Rattle.elf_object_edit.specs.Without.{moved_relocation, moved_section, moved_symbol, new_position, body_signature, staying}
+use Rattle.elf_object_edit.specs.Without.{staying_symbols}
 use Rattle.elf_object_edit.specs.Without.{stays, body_target, with_staying}
 use Rattle.elf_object_edit.specs.declared.fault.Reference.TheVariants.{Link, Target, Signature, Member}
 use Rattle.elf_object_edit.specs.declared.fault.Reference.TheVariants as reference
-use Rattle.elf_object_type.specs.Object.{BodyValue, bits, no_bits, relocs, group, ObjectValue, SectionValue, SymbolValue, section_at, symbol_at}
-use Rattle.elf_object_type.specs.Object.{HasZero, LacksFlag, info_position, is_bits, is_group, members_of, no_relocation, no_section, no_symbol}
+use Rattle.elf_object_type.specs.Object.{BodyValue, bits, no_bits, relocs, group, ObjectValue, SectionValue, SymbolValue, section_at}
+use Rattle.elf_object_type.specs.Object.{symbol_at}
+use Rattle.elf_object_type.specs.Object.{HasZero, LacksFlag, info_position, is_bits, is_group, members_of, no_relocation, no_section}
+use Rattle.elf_object_type.specs.Object.{no_symbol}
 use Rattle.elf_object_type.specs.ObjectRules.{EachSection, EachSymbol, FollowsFlag, HasBitsType, HasEntryFields}
 use Rattle.elf_object_type.specs.ObjectRules.{HasNoAddends, HasReferences, HasRightFields, HasRightMembers}
-use Rattle.elf_object_type.specs.ObjectRules.{HasRightPositions, IsAligned, IsLocal, KeepsObjectRules, group_members, member_in, place_position}
+use Rattle.elf_object_type.specs.ObjectRules.{HasRightPositions, IsAligned, IsLocal, KeepsObjectRules, group_members, member_in}
+use Rattle.elf_object_type.specs.ObjectRules.{place_position}
 use Rattle.elf_object_type.specs.declared.parts.Info.TheVariants.{Number, Section}
 use Rattle.elf_object_type.specs.declared.parts.Info.{Info}
 use Rattle.elf_object_type.specs.declared.parts.Place.TheVariants.{Undef, Abs, Common, In}
@@ -51,7 +55,8 @@ symbol_of : (o : ObjectValue) (S Y : List Bool) (q : ℕ) → q < length (with_s
 symbol_of o S Y q lt =
     let below : q < new_position Y (length Y) = omega (arith, symbol_count o S Y) in
     let (k, is) = listed (stays Y) (length Y) q below in
-    (k, is, get_or-map (λ k. moved_symbol S (symbol_at o k)) (staying Y) q 0 no_symbol below ∙ ap (λ k. moved_symbol S (symbol_at o k)) is.at)
+    let moved : ℕ → SymbolValue = λ k. moved_symbol S (symbol_at o k) in
+    (k, is, get_or-map moved (staying Y) q 0 no_symbol below ∙ ap moved is.at)
 
 -- the new position of one that stays
 position_there : (marks : List Bool) (p : ℕ) → stays marks p ≡ true → new_position marks p < new_position marks (length marks)
@@ -144,7 +149,8 @@ references o S Y (relocs rela target entries) names are =
     let is = named_stays S target names.target in
     record {
       target_there = subst (λ (m : ℕ). new_position S target < m) (sym (section_count o S Y)) (position_there S target is);
-      target_bits = ap (λ (s : SectionValue). is_bits s.body) (moved_at o S Y target is) ∙ still_bits S Y (section_at o target).body are.target_bits;
+      target_bits = ap (λ (s : SectionValue). is_bits s.body) (moved_at o S Y target is) ∙
+          still_bits S Y (section_at o target).body are.target_bits;
       symbols_there = λ j lt. (
           let within : j < length entries = omega (arith, length-map entries (moved_relocation Y)) in
           subst (λ (r : Relocation). IfSome r.symbol (λ k. k < length e.symbols))
@@ -168,8 +174,8 @@ info_moved : (S : List Bool) (info : Info) → info_position (moved_info S info)
 info_moved S (Number number) = refl
 info_moved S (Section p) = refl
 
-right_positions : (o : ObjectValue) (S Y : List Bool) (p : ℕ) → NoneDangles o S Y → stays S p ≡ true → HasRightPositions o (section_at o p) →
-    HasRightPositions (with_staying o S Y) (Moved S Y o p)
+right_positions : (o : ObjectValue) (S Y : List Bool) (p : ℕ) → NoneDangles o S Y → stays S p ≡ true →
+    HasRightPositions o (section_at o p) → HasRightPositions (with_staying o S Y) (Moved S Y o p)
 right_positions o S Y p none is right =
     let s = section_at o p in
     let e = with_staying o S Y in
@@ -285,7 +291,8 @@ place_there S n (In p) count is = subst (λ (m : ℕ). new_position S p < m) (sy
 place_stays : (o : ObjectValue) (S Y : List Bool) (k : ℕ) → Y ≡ staying_symbols o S → stays Y k ≡ true →
     has_staying_place S (symbol_at o k).place ≡ true
 place_stays o S Y k own is =
-    let long : length Y ≡ length o.symbols = ap (λ (ms : List Bool). length ms) own ∙ length-map o.symbols (λ s. has_staying_place S s.place) in
+    let long : length Y ≡ length o.symbols =
+    ap (λ (ms : List Bool). length ms) own ∙ length-map o.symbols (λ s. has_staying_place S s.place) in
     let there = stays_there Y k is in
     sym (ap (λ (ms : List Bool). get_or ms k false) own ∙
     get_or-map (λ (s : SymbolValue). has_staying_place S s.place) o.symbols k no_symbol false (omega arith)) ∙ is
@@ -312,7 +319,8 @@ locals_first o S Y long rules k j lt there local =
 pub edited_kept : (o : ObjectValue) (S Y : List Bool) → length S ≡ length o.sections → Y ≡ staying_symbols o S → NoneDangles o S Y →
     KeepsObjectRules o → KeepsObjectRules (with_staying o S Y)
 edited_kept o S Y long own none rules =
-    let many : length Y ≡ length o.symbols = ap (λ (ms : List Bool). length ms) own ∙ length-map o.symbols (λ s. has_staying_place S s.place) in
+    let many : length Y ≡ length o.symbols =
+    ap (λ (ms : List Bool). length ms) own ∙ length-map o.symbols (λ s. has_staying_place S s.place) in
     let e = with_staying o S Y in
     record {
       section_names = each_section o S Y (λ s. HasZero s.name → ⊥) (λ s. HasZero s.name → ⊥) long (λ p is named. named) rules.section_names;

@@ -1,5 +1,5 @@
--- An object without some of its sections: what stays, its new positions, and the first reference that refuses it. (gABI chapter 4, Sections:
--- sh_link, sh_info; Symbol Table: st_shndx; Relocation; Section Groups.)
+-- An object without some of its sections: what stays, its new positions, and the first reference that refuses it. (gABI chapter 4,
+-- Sections: sh_link, sh_info; Symbol Table: st_shndx; Relocation; Section Groups.)
 use Rattle.std.specs.Prelude.{◌≡◌, ◌<◌, ◌≤◌, ◌+◌, ◌⊎◌, ℕ, Bool, false, true, not, List, [], filter, get_or, length, map, Option, None, Some}
 use Rattle.std.specs.List.{range_with_len, slice_get}
 use Rattle.std.specs.Option.{option_map}
@@ -7,7 +7,8 @@ use Rattle.elf_object_edit.specs.declared.fault.Reference.TheVariants.{Link, Inf
 use Rattle.elf_object_edit.specs.declared.fault.Reference.{Reference}
 use Rattle.elf_object_edit.specs.declared.fault.WithoutFault.TheVariants.{Dangling, OutOfMemory}
 use Rattle.elf_object_edit.specs.declared.fault.WithoutFault.{WithoutFault}
-use Rattle.elf_object_type.specs.Object.{BodyValue, bits, no_bits, relocs, group, ObjectValue, SectionValue, SymbolValue, section_at, symbol_at}
+use Rattle.elf_object_type.specs.Object.{BodyValue, bits, no_bits, relocs, group, ObjectValue, SectionValue, SymbolValue, section_at}
+use Rattle.elf_object_type.specs.Object.{symbol_at}
 use Rattle.elf_object_type.specs.Object.{info_position, members_of, no_relocation}
 use Rattle.elf_object_type.specs.declared.parts.Info.TheVariants.{Number, Section}
 use Rattle.elf_object_type.specs.declared.parts.Place.TheVariants.{Undef, Abs, Common, In}

@@ -142,8 +142,10 @@ impl<'o, 'a> Edit<'o, 'a> {
 
     /// The symbols that stay.
     fn kept_symbols(&self, alloc: Global) -> Result<Vec<Symbol<'a>>, AllocError>
-        ensures { IfOk result (λ read. map symbol_value read.items ≡
-            map (λ k. moved_symbol self.now.sections.marks.items (symbol_of self.now.object.now k)) (staying self.now.symbols.marks.items)) }
+        ensures { let sections = self.now.sections.marks.items in
+            let symbols = self.now.symbols.marks.items in
+            IfOk result (λ read. map symbol_value read.items ≡
+            map (λ k. moved_symbol sections (symbol_of self.now.object.now k)) (staying symbols)) }
     {
         let mut read = Vec::new(alloc);
         for i in 0..self.object.symbols().len() {

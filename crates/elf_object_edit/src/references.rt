@@ -2,7 +2,8 @@
 ghost use Rattle.std.specs.Prelude.{◌≡◌, ◌<◌, MatchOption, get_or, length};
 ghost use Rattle.std.specs.List.{slice_get};
 ghost use Rattle.elf_object_edit.specs.Without.{IsFirstDangling, IsFirstReference, IsLeftOut, IsLowestIndex, NoneDangles};
-ghost use Rattle.elf_object_type.specs.Object.{info_position as info_position_of, no_relocation, section_at as section_of, symbol_at as symbol_of};
+ghost use Rattle.elf_object_type.specs.Object.{info_position as info_position_of, no_relocation, section_at as section_of};
+ghost use Rattle.elf_object_type.specs.Object.{symbol_at as symbol_of};
 ghost use Rattle.elf_object_type.specs.ObjectView.{section_value, symbol_value};
 
 use crate::fault::Reference;

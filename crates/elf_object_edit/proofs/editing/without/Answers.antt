@@ -32,7 +32,8 @@ kept_object-requires-clause-rules c =
     ap (λ (ms : List Bool). length ms) (c.in_ok-new.ensures ∙ c.in_ok-sections.ensures) ∙
     length-map-range_with_len (λ p. not (get_or c.args.left_out.now p false)) 0 (length o.sections) in
     subst IsObject (sym c.in_ok-parts.ensures)
-    (object_rules_unbroken (with_staying o S Y) (edited_kept o S Y long own c.in_default.ensures (object_rules_kept o c.prove_rules.ensures.kept)))
+    (object_rules_unbroken (with_staying o S Y)
+    (edited_kept o S Y long own c.in_default.ensures (object_rules_kept o c.prove_rules.ensures.kept)))
 
 pub kept_object-requires-clause-ends : goal.kept_object-requires-clause-ends
 kept_object-requires-clause-ends c =
@@ -42,8 +43,8 @@ kept_object-requires-clause-ends c =
     let symbols = c.in_ok-ends.field-0.items in
     let sections = c.in_ok-ends-2.field-0.items in
     let have = subst (λ (v : ObjectValue). HaveEnds v symbols sections) (sym c.in_ok-parts.ensures)
-    (moved_name_ends o S Y c.symbol_ends.result.now c.section_ends.result.now symbols sections c.symbol_ends.ensures c.section_ends.ensures.tails
-    c.in_ok-ends.ensures c.in_ok-ends-2.ensures) in
+    (moved_name_ends o S Y c.symbol_ends.result.now c.section_ends.result.now symbols sections c.symbol_ends.ensures
+    c.section_ends.ensures.tails c.in_ok-ends.ensures c.in_ok-ends-2.ensures) in
     record { symbols = have.symbols_are; sections = have.sections_are; fits = have.fits }
 
 pub returns-clause-object : goal.returns-clause-object
