@@ -11,13 +11,14 @@
 //! | [`exec`] | the executable of a link |
 //! | [`tool`] | the program `elfmap`, over any readers and writers |
 //!
-//! Five programs show what people do with it, in 50 to 150 lines, each in a crate of its name:
+//! Six programs show what people do with it, in 50 to 150 lines, each in a crate of its name:
 //!
 //! | program | what it shows |
 //! |---|---|
 //! | `example_symbols FILE` | reading a file, validating it, and listing the symbols of its tables |
 //! | `example_make` | making an object from nothing, reading it back from its file, and writing its canonical layout |
 //! | `example_edit FILE` | writing a file's image, also with edits; with `--seek` by a source of its own, without its contents in memory |
+//! | `example_strip` | leaving the debug sections of an object out, with a contract on what it writes |
 //! | `example_link A B` | linking two objects, relocating their bytes, writing the executable, and asking it for a byte of memory |
 //! | `example_program A B C WORD..` | running the whole program over files in memory, with a contract on what it prints |
 //!

@@ -5,6 +5,7 @@ use crate::said::{Said, of_fault, say};
 use elf_image_outline::{CopyFault, copy_image, scan};
 use elf_image_stream::{Bytes, Fault, Source, WriteFault};
 use elf_image_type::{Image, parse, verdict, write};
+use elf_object_edit::{WithoutFault, without};
 use elf_object_file::write_object;
 use elf_object_layout::{LayoutFault, lay_out};
 use elf_object_reader::object_of;
@@ -85,8 +86,18 @@ fn on_group<W: Write>(alloc: Global, image: &Image<'_>, i: usize, out: &mut W)
 
 fn on_object<W: Write>(alloc: Global, object: &Object<'_>, out: &mut W) {
     say(out, "object_of", Said::Done(object.sections().len() as u64));
+    say(out, "without", rest(alloc, object));
     say(out, "lay_out", laid_out(alloc, object));
     say(out, "write_object", written(alloc, object));
+}
+
+/// The object with all of its sections, made anew.
+fn rest(alloc: Global, object: &Object<'_>) -> Said {
+    match without(alloc, object, &[]) {
+        Ok(rest) => Said::Done(rest.sections().len() as u64),
+        Err(WithoutFault::OutOfMemory) => Said::Memory,
+        Err(_) => Said::Refused,
+    }
 }
 
 fn laid_out(alloc: Global, object: &Object<'_>) -> Said {

@@ -3,7 +3,7 @@ use elf::exec::ExecFault;
 use elf::extent::{OutOfMemory, PlaceFault};
 use elf::image::{CopyFault, Failed, Fault, NoSection, ReplaceFault, WriteFault};
 use elf::link::LinkFault;
-use elf::object::{LayoutFault, ObjectFault, ObjectWriteFault};
+use elf::object::{LayoutFault, ObjectFault, ObjectWriteFault, Reference, WithoutFault};
 use elf::table::HashFault;
 use elf::tool::{OpenFault, WordsFault};
 use std::error::Error;
@@ -72,10 +72,36 @@ fn want_of_memory(rt: HostRuntime) {
     assert_text(&rt, ObjectFault::OutOfMemory, "out of memory");
     assert_text(&rt, LayoutFault::OutOfMemory, "out of memory");
     assert_text(&rt, ObjectWriteFault::OutOfMemory, "out of memory");
+    assert_text(&rt, WithoutFault::OutOfMemory, "out of memory");
     assert_text(&rt, LinkFault::OutOfMemory, "out of memory");
     assert_text(&rt, ExecFault::OutOfMemory, "out of memory");
     assert_text(&rt, OpenFault::OutOfMemory, "out of memory");
     assert_text(&rt, WordsFault::OutOfMemory, "out of memory");
+}
+
+/// The text of a section's reference to what is left out, after the same words.
+fn assert_reference(rt: &impl Abort, reference: Reference, words: &str) {
+    let fault = WithoutFault::Dangling {
+        section: 3,
+        reference,
+    };
+    assert_text(rt, fault, words);
+}
+
+#[test]
+fn references_to_what_is_left_out(rt: HostRuntime) {
+    let link = "section 3 refers to what is left out, by its link";
+    assert_reference(&rt, Reference::Link, link);
+    let info = "section 3 refers to what is left out, by its info";
+    assert_reference(&rt, Reference::Info, info);
+    let target = "section 3 refers to what is left out, by its target";
+    assert_reference(&rt, Reference::Target, target);
+    let symbol = "section 3 refers to what is left out, by its symbol of relocation 7";
+    assert_reference(&rt, Reference::Symbol(7), symbol);
+    let signature = "section 3 refers to what is left out, by its signature";
+    assert_reference(&rt, Reference::Signature, signature);
+    let member = "section 3 refers to what is left out, by its member 2";
+    assert_reference(&rt, Reference::Member(2), member);
 }
 
 #[test]

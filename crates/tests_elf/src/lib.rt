@@ -37,8 +37,8 @@ pub mod table {
 pub mod object {
     pub use elf::object::{
         Body, Info, Layout, LayoutFault, Object, ObjectFault, ObjectParts, ObjectWriteFault, Place,
-        Relocation, Section, Shared, Symbol, lay_out, object_of, prove_read_back, rules,
-        shared_table, write_object,
+        Reference, Relocation, Section, Shared, Symbol, WithoutFault, lay_out, object_of,
+        prove_read_back, rules, shared_table, without, write_object,
     };
 }
 

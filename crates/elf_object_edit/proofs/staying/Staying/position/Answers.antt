@@ -1,0 +1,20 @@
+use Rattle.std.proofs.Common.{◌+◌, ◌<◌, List, get_or, length, inl, inr, ap, ◌∙◌, sym, arith}
+use Rattle.std.proofs.lemmas.Bool.{cases_lt}
+use Rattle.std.proofs.lemmas.List.{get_or_default}
+use Rattle.elf_object_edit.specs.Without.{new_position}
+use Rattle.elf_object_edit.proofs.Positions.{position_get, position_past}
+use Rattle.elf_object_edit.proofs.staying.Staying.position.Goals as goal
+
+pub returns : goal.returns
+returns c =
+    let marks = c.args.self.now.marks.items in
+    let m = c.min.result in
+    let own = c.args.self.now.own_positions in
+    let long = own.long in
+    let within : m < length marks + 1 = omega arith in
+    c.index.ensures ∙ sym (get_or_default c.args.self.now.positions.items m 0 c.index.result.now (omega arith)) ∙
+    ap (λ (xs : List _). get_or xs m 0) own.right ∙ position_get marks m within ∙
+    elim (cases_lt c.args.p (length marks)) [
+      | inl there ↦ ap (new_position marks) (omega arith)
+      | inr past ↦ ap (new_position marks) (omega arith) ∙ sym (position_past marks c.args.p past)
+    ]

@@ -1,0 +1,2 @@
+-- The definitions that this program's contracts use.
+pub mod Debug
