@@ -10,3 +10,5 @@ pub use Rattle.elf_image_type.specs.ImageView
 pub use Rattle.elf_image_outline.specs.Scanning
 pub use Rattle.elf_image_stream.specs.Source
 pub use Rattle.elf_image_stream.specs.Reading
+pub use Rattle.elf_image_sources.specs.Joined
+pub use Rattle.elf_image_sources.specs.Patched
