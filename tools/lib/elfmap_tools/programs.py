@@ -31,6 +31,7 @@ from . import (
     generated_programs,
     guarantees,
     hostile_files,
+    import_paths,
     instructions,
     launcher,
     laws,
@@ -262,6 +263,11 @@ RELEASE = [
         definitions_page.write_definitions,
     ),
     Command(
+        "imports",
+        "write docs/generated/IMPORTS.md and specs/ of the crate elf, from what public crates show",
+        import_paths.write_imports,
+    ),
+    Command(
         "lemmas",
         "write docs/generated/LEMMAS.md, from the comments in crates/*/proofs/",
         lemmas_page.write_lemmas,
@@ -288,6 +294,7 @@ MODULES = [
     format,
     definitions,
     names,
+    import_paths,
     rules_tables,
     guarantees,
     doc,
