@@ -23,7 +23,7 @@ MODULE = re.compile(r"^pub (?:mod (\w+)|use Rattle\.(\S+)\.specs\.(\S+))$", re.M
 TYPES = "Types"
 HEAD = """# Import paths
 
-`tools/release imports` makes the tables of this page from what the public crates show. Do not edit them by hand.
+`tools/release imports` makes the tables of this page. Do not edit them by hand: they have what the public crates show.
 
 A clause imports a definition by a line `ghost use`, as `ghost use Rattle.elf.specs.image.Rules.{{IsFault}}`. The first table has the files
 of definitions of each public crate. [DEFINITIONS](DEFINITIONS.md) has the names in them. The second table has the structs and enums. A
