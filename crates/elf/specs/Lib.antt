@@ -1,4 +1,4 @@
--- The definitions in the contracts of the library, as the crate `elf` shows its calls.
+-- The definitions in the contracts of the library, as `elf` shows its calls.
 pub mod field
 pub mod extent
 pub mod image

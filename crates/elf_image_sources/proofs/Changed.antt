@@ -1,5 +1,6 @@
 -- A byte that is changed. A read has it at its distance from the offset of the read, if it reaches so far; else the read is as before.
-use Rattle.std.proofs.Common.{arith, ◌≡◌, ◌∙◌, ◌+◌, ◌-◌, ◌≤◌, ◌<◌, ◌⊎◌, inl, inr, ap, refl, subst, sym, ℕ, List, [], ◌∷◌, Option, None, Some}
+use Rattle.std.proofs.Common.{arith, ◌≡◌, ◌∙◌, ◌+◌, ◌-◌, ◌≤◌, ◌<◌, ◌⊎◌, inl, inr, ap, refl, subst, sym, ℕ, List, [], ◌∷◌}
+use Rattle.std.proofs.Common.{Option, None, Some}
 use Rattle.std.proofs.Common.{IfSome, drop, set, suc, take, zero}
 use Rattle.std.proofs.lemmas.List.{drop-set-add, drop-set-lt, length-set, take-set-le}
 use lib.Seq.{take-set-lt}
@@ -15,7 +16,8 @@ IsBytes-set (a ∷ b) (suc p) value fits bytes =
     IsBytes-cons a (set b p value) (bytes zero) (IsBytes-set b p value fits (IsBytes-rest a b bytes))
 
 -- a byte changed to a byte
-pub bytes_reported : (content : Option (List ℕ)) (p value : ℕ) → value < 256 → ReportsBytes content → ReportsBytes (with_byte p value content)
+pub bytes_reported : (content : Option (List ℕ)) (p value : ℕ) → value < 256 → ReportsBytes content →
+    ReportsBytes (with_byte p value content)
 bytes_reported None p value fits bytes b same = absurd (let none : None ≡ Some b = same in cc)
 bytes_reported (Some a) p value fits bytes b same =
     let are : set a p value ≡ b = (let some : Some (set a p value) ≡ Some b = same in cc) in

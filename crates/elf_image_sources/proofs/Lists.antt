@@ -2,19 +2,20 @@
 -- before the offset, so what is left of the list from the offset on begins what is left of all bytes.
 use Rattle.std.proofs.Common.{arith, ◌≡◌, ◌∙◌, ◌+◌, ◌-◌, ◌≤◌, ◌<◌, ◌^◌, ◌++◌, ap, refl, subst, sym, ℕ, List, [], ◌∷◌, drop, get_or, length}
 use Rattle.std.proofs.Common.{lit<, take-add, append_assoc, append-nil, length-append, map, take, min, take-append-drop, inl, inr}
-use Rattle.std.proofs.lemmas.List.{take_at, get_or_append_left, get_or-append_right, length-drop, take-append-le, take_more, take_all, take_rest}
+use Rattle.std.proofs.lemmas.List.{take_at, get_or_append_left, get_or-append_right, length-drop, take-append-le}
+use Rattle.std.proofs.lemmas.List.{take_more, take_all, take_rest}
 use Rattle.std.proofs.lemmas.List.{drop-append-le, length-take-le}
 use Rattle.std.proofs.lemmas.Bool.{cases_lt}
 use Rattle.std.proofs.lemmas.Grind.{get_or_default_zero}
 use Rattle.std.proofs.lemmas.List.Folds.{concat-append}
 use Rattle.std.specs.Borrow.{Bor}
 use Rattle.std.specs.List.{concat}
-use Rattle.std.specs.List.Sorted.{IsNonDecreasingBy, IsPartitionPoint}
+use Rattle.std.specs.List.Sorted.{IsNonDecreasingBy}
 use lib.Seq.{drop-append-add}
 use Rattle.elf_image_stream.specs.Source.{GivesAt}
 use Rattle.elf_field.specs.Bytes.{IsBytes}
 use Rattle.elf_field.specs.laws.Bytes.{IsBytes-append, IsBytes-nil}
-use Rattle.elf_image_sources.specs.Joined.{AreListEnds, IsFrom, bytes_of_lists}
+use Rattle.elf_image_sources.specs.Joined.{AreListEnds, IsCountUpTo, IsFrom, bytes_of_lists}
 
 map-append : (xs ys : List (Bor (List ℕ))) → map (λ (x : Bor (List ℕ)). x.now) (xs ++ ys) ≡ map (λ x. x.now) xs ++ map (λ x. x.now) ys
 map-append [] ys = refl
@@ -109,7 +110,8 @@ module _ (lists : List (Bor (List ℕ))) (k : ℕ) (d : Bor (List ℕ)) (within 
       (ends_more (take k lists) ends (get_or lists k d) (end + n) are bytes (omega (arith, at, is)) fits)
 
 -- the last offset is the length of all
-pub last_end : (lists : List (Bor (List ℕ))) (ends : List ℕ) → AreListEnds lists ends → get_or ends (length ends - 1) 0 ≡ length (bytes_of_lists lists)
+pub last_end : (lists : List (Bor (List ℕ))) (ends : List ℕ) → AreListEnds lists ends →
+    get_or ends (length ends - 1) 0 ≡ length (bytes_of_lists lists)
 last_end [] [] are = refl
 last_end [] (e ∷ ends) are = absurd (omega (arith, are.all))
 last_end (x ∷ lists) ends are =
@@ -125,10 +127,14 @@ ends_ascend lists ends are i j d le within =
     let ascends = start_ascends lists (i + 1) (j + 1) (omega arith) in
     omega (arith, first, second, ascends)
 
+-- the last bytes of a list, so many
+abbrev pub last_of : List ℕ → ℕ → List ℕ
+last_of list n = take (length list - (length list - n)) (drop (length list - n) list)
+
 -- The list that is found: all before it end at or before an offset, and it is the first that ends after it.
 
 module _ (lists : List (Bor (List ℕ))) (ends : List ℕ) (at k : ℕ) (are : AreListEnds lists ends)
-    (found : IsPartitionPoint (λ (e : ℕ). e ≤ at) (λ (e : ℕ). at < e) ends k) where
+    (found : IsCountUpTo at ends k) where
   -- it begins at or before the offset
   starts_before : k ≤ length lists → start lists k ≤ at
   starts_before within = elim (cases_lt 0 k) [
@@ -174,13 +180,13 @@ module _ (lists : List (Bor (List ℕ))) (ends : List ℕ) (at k : ℕ) (are : A
     parts =
         ap bytes_of_lists (sym (take-append-drop (k + 1) lists))
         ∙ joined-append (take (k + 1) lists) (drop (k + 1) lists)
-        ∙ ap (λ (bs : List ℕ). bs ++ bytes_of_lists (drop (k + 1) lists)) (ap bytes_of_lists (take_more lists k d within) ∙ joined-snoc (take k lists) (get_or lists k d))
+        ∙ ap (λ (bs : List ℕ). bs ++ bytes_of_lists (drop (k + 1) lists))
+        (ap bytes_of_lists (take_more lists k d within) ∙ joined-snoc (take k lists) (get_or lists k d))
         ∙ append_assoc (bytes_of_lists (take k lists)) (get_or lists k d).now (bytes_of_lists (drop (k + 1) lists))
 
     -- what is left of it begins what is left of all
     from_found : (n : ℕ) → n ≡ get_or ends k 0 - at →
-        IsFrom (bytes_of_lists lists) at (take (length (get_or lists k d).now - (length (get_or lists k d).now - n))
-        (drop (length (get_or lists k d).now - n) (get_or lists k d).now))
+        IsFrom (bytes_of_lists lists) at (last_of (get_or lists k d).now n)
     from_found n is =
         let own = (get_or lists k d).now in
         let rest = bytes_of_lists (drop (k + 1) lists) in
@@ -212,11 +218,10 @@ module _ (lists : List (Bor (List ℕ))) (ends : List ℕ) (at k : ℕ) (are : A
       pub back_found : e - at ≤ length (get_or lists k d).now
       back_found = omega (arith, read, reaches_back)
 
-      pub rest_found : (b : List ℕ) → bytes_of_lists lists ≡ b → IsFrom b at (take (length (get_or lists k d).now - (length (get_or lists k d).now - (e - at)))
-          (drop (length (get_or lists k d).now - (e - at)) (get_or lists k d).now))
+      pub rest_found : (b : List ℕ) → bytes_of_lists lists ≡ b → IsFrom b at (last_of (get_or lists k d).now (e - at))
       rest_found b all =
-          subst (λ (bytes : List ℕ). IsFrom bytes at (take (length (get_or lists k d).now - (length (get_or lists k d).now - (e - at)))
-          (drop (length (get_or lists k d).now - (e - at)) (get_or lists k d).now))) all (from_found (e - at) (omega (arith, read)))
+          subst (λ (bytes : List ℕ). IsFrom bytes at (last_of (get_or lists k d).now (e - at))) all
+          (from_found (e - at) (omega (arith, read)))
 
 -- a read of what is left of a list is a read of all bytes
 pub gives_from : (b list buf old : List ℕ) (at n : ℕ) → IsFrom b at list → n ≡ min (length list - 0) (length old) →

@@ -1,8 +1,8 @@
 //! Lists of bytes in memory, one after the other, as one source.
 ghost use Rattle.std.specs.Prelude.{◌≡◌, ◌≤◌, ◌<◌, ◌^◌, OnOk, IfErr, IfNone, IfOk, IfSome, get_or, length, ◌-◌};
-ghost use Rattle.std.specs.List.Sorted.{IsNonDecreasing, IsPartitionPoint};
+ghost use Rattle.std.specs.List.Sorted.{IsNonDecreasing};
 ghost use Rattle.elf_field.specs.Bytes.{IsBytes};
-ghost use Rattle.elf_image_sources.specs.Joined.{IsJoinFault, IsFrom, bytes_of_lists};
+ghost use Rattle.elf_image_sources.specs.Joined.{IsCountUpTo, IsFrom, IsJoinFault, bytes_of_lists};
 
 use elf_image_stream::{Bytes, Failed, Source};
 use std::alloc::{AllocError, AllocFailed, Global};
@@ -101,7 +101,7 @@ impl<'a> Joined<'a> {
 fn count_up_to(ends: &[u64], at: u64) -> usize
     requires ascend { IsNonDecreasing ends.now }
     ensures bound { result ≤ length ends.now }
-    ensures count { IsPartitionPoint (λ end. end ≤ at) (λ end. at < end) ends.now result }
+    ensures count { IsCountUpTo at ends.now result }
 {
     ends.partition_point(|end| *end <= at)
 }

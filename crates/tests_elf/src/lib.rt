@@ -1,5 +1,5 @@
-//! Tests of what the library shows: each item of each public crate, and definitions, named through `elf`; the texts of faults; and the object without
-//! sections and symbols, made, written, validated and read.
+//! Tests of what the library shows: each item of each public crate, and definitions, named through `elf`; the texts of faults; and the
+//! object without sections and symbols, made, written, validated and read.
 #![tactic(auto)]
 
 /// Records.

@@ -23,13 +23,18 @@ MODULE = re.compile(r"^pub (?:mod (\w+)|use Rattle\.(\S+)\.specs\.(\S+))$", re.M
 TYPES = "Types"
 HEAD = """# Import paths
 
-`tools/release imports` makes the tables of this page. Do not edit them by hand: they have what the public crates show.
+`tools/release imports` makes the tables of this page. Do not edit them by hand: they have what the
+public crates show.
 
-A clause imports a definition by a line `ghost use`, as `ghost use Rattle.elf.specs.image.Rules.{{IsFault}}`. The first table has the files
-of definitions of each public crate. [DEFINITIONS](DEFINITIONS.md) has the names in them. The second table has the structs and enums. A
-clause names the variants of an enum below `TheVariants`, as `Rattle.elf.specs.image.Types.Fault.TheVariants.{{Rule}}`. A crate that
-stands on a public crate and not on `elf` writes `Rattle.elf_image.specs` in place of `Rattle.elf.specs.image`. There the structs and
-enums of `elf_field`, `elf_extent` and `elf_exec` are below `declared`, at the path of their module.
+A clause imports a definition by a line `ghost use`, as
+`ghost use Rattle.elf.specs.image.Rules.{{IsFault}}`. The first table has the files of definitions
+of each public crate. [DEFINITIONS](DEFINITIONS.md) has the names in them. The second table has the
+structs and enums. A clause names the variants of an enum below `TheVariants`, as
+`Rattle.elf.specs.image.Types.Fault.TheVariants.{{Rule}}`.
+
+A crate that stands on a public crate and not on `elf` writes `Rattle.elf_image.specs` in place of
+`Rattle.elf.specs.image`. There the structs and enums of `elf_field`, `elf_extent` and `elf_exec`
+are below `declared`, at the path of their module.
 
 ## Definitions
 
@@ -137,7 +142,7 @@ def texts() -> Iterator[tuple[str, str]]:
         lines += "" if is_showing else f"pub mod {TYPES}\n"
         lines += "".join(f"pub use Rattle.elf_{public}.specs.{it}\n" for it in shown)
         yield f"crates/elf/specs/{public}.antt", lines
-    lines = "-- The definitions in the contracts of the library, as the crate `elf` shows its calls.\n"
+    lines = "-- The definitions in the contracts of the library, as `elf` shows its calls.\n"
     yield "crates/elf/specs/Lib.antt", lines + "".join(f"pub mod {it}\n" for it in PUBLIC_CRATES)
 
 
@@ -173,7 +178,7 @@ def unnamed() -> Iterator[str]:
         for item in items(public):
             for path, name in named(item):
                 if ".declared." not in path and path not in known and name not in passed_on(known):
-                    yield f"elf_{public}: {item.name} names {path}.{name}, of which there is no path"
+                    yield f"elf_{public}: {item.name} names {path}.{name}, which has no path"
 
 
 @functools.cache

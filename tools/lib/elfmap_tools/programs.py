@@ -9,6 +9,7 @@ from functools import partial
 from typing import NamedTuple
 
 from . import (
+    application,
     bindings,
     inner_loop,
     c_library,
@@ -63,6 +64,7 @@ from . import (
     shared_tails,
     shown_commands,
     slow_files,
+    source_files,
     sweep,
     types,
     web_page,
@@ -222,6 +224,12 @@ RELEASE = [
         [HERE],
     ),
     Command(
+        "sources",
+        "pack the sources of the library, with a template of an application",
+        lambda it: print(source_files.pack(it.folder, it.version)),
+        [HERE, VERSION],
+    ),
+    Command(
         "conformance",
         "pack the conformance suite, whose version is in conformance/VERSION",
         lambda it: print(conformance.pack(it.folder)),
@@ -305,6 +313,7 @@ MODULES = [
     conformance_runs,
     release,
     launcher,
+    application,
     packages,
     pages,
     shown_commands,

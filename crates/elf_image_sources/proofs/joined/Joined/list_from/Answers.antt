@@ -1,7 +1,5 @@
 use Rattle.std.proofs.Common.{◌≤◌, length, subst, sym, ℕ, List}
-use Rattle.std.proofs.Common.{◌<◌}
-use Rattle.std.specs.List.Sorted.{IsPartitionPoint}
-use Rattle.elf_image_sources.specs.Joined.{AreListEnds}
+use Rattle.elf_image_sources.specs.Joined.{AreListEnds, IsCountUpTo}
 use Rattle.elf_image_sources.proofs.Lists.{all_before, back_found, ends_ascend, rest_found}
 use Rattle.elf_image_sources.proofs.joined.Joined.list_from.Goals as goal
 
@@ -19,12 +17,12 @@ returns-then-index-self-clause-none c =
 
 pub overflow_sub-result : goal.overflow_sub-result
 overflow_sub-result c =
-    let found = subst (λ (ends : List ℕ). IsPartitionPoint (λ (e : ℕ). e ≤ c.args.at) (λ (e : ℕ). c.args.at < e) ends c.count_up_to-index.result)
+    let found = subst (λ (ends : List ℕ). IsCountUpTo c.args.at ends c.count_up_to-index.result)
     c.deref.ensures.value c.count_up_to-index.ensures.count in
     back_found _ _ c.args.at _ c.self.invariant found _ c.if-index-self.false _ c.index.ensures
 
 pub returns-clause-from : goal.returns-clause-from
 returns-clause-from c =
-    let found = subst (λ (ends : List ℕ). IsPartitionPoint (λ (e : ℕ). e ≤ c.args.at) (λ (e : ℕ). c.args.at < e) ends c.count_up_to-index.result)
+    let found = subst (λ (ends : List ℕ). IsCountUpTo c.args.at ends c.count_up_to-index.result)
     c.deref.ensures.value c.count_up_to-index.ensures.count in
     rest_found _ _ c.args.at _ c.self.invariant found _ c.if-index-self.false _ c.index.ensures _ c.self.view_is

@@ -13,8 +13,8 @@ loop-list-preserved c =
     let lists = c.args.lists.now in
     let before = c.loop-list.invariant in
     let next = c.in-Some.ensures in
-    let ends = ends_so_far lists c.loop-list.list-index _ c.loop-list-test.true _ _ before.end c.length_of.ensures.length c.loop-list.ends.items
-    c.length_of.ensures.bytes next.0 before.ends in
+    let ends = ends_so_far lists c.loop-list.list-index _ c.loop-list-test.true _ _ before.end c.length_of.ensures.length
+    c.loop-list.ends.items c.length_of.ensures.bytes next.0 before.ends in
     record {
       ends = subst (λ (es : List ℕ). AreListEnds (take (c.loop-list.list-index + 1) lists) es)
           (sym (c.in_ok-push.ensures.items ∙ ap (λ (e : ℕ). c.loop-list.ends.items ++ e ∷ []) next.1)) ends;
