@@ -5,8 +5,9 @@
 //! records, names, contents and parts, and its edits keep it an image. [`write`] writes it.
 //!
 //! [`scan`] reads a [`Source`], which can be read at any offset, and makes an [`Outline`]: the records and parts without the contents.
-//! [`copy_image`] writes the file with the edits of the outline. A source of your own keeps its [`Failures`]. This sets the entry of a file
-//! that a reader gives:
+//! [`copy_image`] writes the file with the edits of the outline. A source of your own keeps its [`Failures`]. [`Joined`] is one over
+//! several lists of bytes, and [`Patched`] another source with one byte changed. With [`ShortReads`] a reader or a source gives few bytes
+//! a call. This sets the entry of a file that a reader gives:
 //!
 //! ```
 //! let mut bytes = Vec::new(alloc);
@@ -23,6 +24,7 @@ pub use elf_image_outline::{
     CopyFault, NoSection, Outline, Owner, Part, ReplaceFault, copy_image, scan,
 };
 pub use elf_image_rules::{rules, verdict};
+pub use elf_image_sources::{JoinFault, Joined, Patched, ShortReads};
 pub use elf_image_stream::{
     Bytes, Failed, Failures, Fault, Opened, Seeking, Source, Stream, WriteFault, read_to_end,
     resume,

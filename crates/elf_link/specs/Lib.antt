@@ -1,4 +1,5 @@
 -- The definitions in the contracts that this public crate shows, for the contracts of those who build on it.
+pub mod Types
 pub use Rattle.elf_link_field.specs.Field
 pub use Rattle.elf_link_files.specs.Rows
 pub use Rattle.elf_link_files.specs.Files

@@ -1,4 +1,5 @@
 -- The definitions in the contracts that this public crate shows, for the contracts of those who build on it.
+pub mod Types
 pub use Rattle.elf_table_all.specs.Tables
 pub use Rattle.elf_table_symbols.specs.Verdicts
 pub use Rattle.elf_table_symbols.specs.Sections

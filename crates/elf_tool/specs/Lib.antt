@@ -1,4 +1,5 @@
 -- The definitions in the contracts that this public crate shows, for the contracts of those who build on it.
+pub mod Types
 pub mod Laws
 pub use Rattle.elf_tool_words.specs.Command
 pub use Rattle.elf_tool_check.specs.Ending

@@ -1,5 +1,5 @@
-//! Tests of what the library shows: each item of each public crate, named through `elf`; the texts of faults; and the object without
-//! sections and symbols, made, written, validated and read.
+//! Tests of what the library shows: each item of each public crate, and definitions, named through `elf`; the texts of faults; and the
+//! object without sections and symbols, made, written, validated and read.
 #![tactic(auto)]
 
 /// Records.
@@ -18,9 +18,9 @@ pub mod extent {
 /// Images.
 pub mod image {
     pub use elf::image::{
-        Bytes, CopyFault, Failed, Failures, Fault, Image, NoSection, Opened, Outline, Owner, Part,
-        ReplaceFault, Seeking, Source, Stream, WriteFault, copy_image, parse, read_to_end, resume,
-        rules, scan, verdict, write,
+        Bytes, CopyFault, Failed, Failures, Fault, Image, JoinFault, Joined, NoSection, Opened,
+        Outline, Owner, Part, Patched, ReplaceFault, Seeking, ShortReads, Source, Stream,
+        WriteFault, copy_image, parse, read_to_end, resume, rules, scan, verdict, write,
     };
 }
 
@@ -66,6 +66,7 @@ pub mod tool {
 
 #[cfg(test)]
 mod asserts;
+pub mod clauses;
 #[cfg(test)]
 mod empty_object;
 #[cfg(test)]

@@ -17,7 +17,7 @@ pub use files::{
     executable_of_a_call, filled_gap, header_alone, list, long_parts, numbered, object,
     one_section, one_segment, relocs, section, symbol, two_of_each,
 };
-pub use streams::{Counter, OnceFailingReader, OnceFailingWriter, PartialSource, Pieces, Sink};
+pub use streams::{Counter, OnceFailingReader, OnceFailingWriter, PartialSource, Sink};
 
 /// A field: its offset in the file, its width in bytes and its value.
 pub type Field = (u64, usize, u64);

@@ -2,32 +2,16 @@
 ghost use Rattle.std.specs.Prelude.{◌≡◌, IfOk, ◌≤◌, length};
 ghost use Rattle.elf_image_stream.specs.Source.{no_failures};
 
+use elf_image_sources::ShortReads;
 use elf_image_stream::{Bytes, Failed, Failures, Source};
 use std::alloc::Global;
 use std::io;
 use std::io::{ErrorKind, Read, Write};
 
-/// Gives its bytes at most `piece` at a time.
-#[derive(Drop)]
-pub struct Pieces<'a> {
-    pub bytes: &'a [u8],
-    pub piece: usize,
-}
-
-impl Read for Pieces<'_> {
-    fn read(&mut self, buf: &mut [u8]) -> io::Result<usize> {
-        let count = self.piece.min(self.bytes.len()).min(buf.len());
-        let (given, rest) = self.bytes.split_at(count);
-        buf[..count].copy_from_slice(given);
-        self.bytes = rest;
-        Ok(count)
-    }
-}
-
 /// Gives its bytes at most `piece` at a time. The call of number `failing`, counted from 1, fails and gives none, and no other.
 #[derive(Drop)]
 pub struct OnceFailingReader<'a> {
-    pub rest: Pieces<'a>,
+    pub rest: ShortReads<&'a [u8]>,
     pub failing: u64,
     /// How many calls there were.
     pub calls: u64,
@@ -36,7 +20,7 @@ pub struct OnceFailingReader<'a> {
 impl<'a> OnceFailingReader<'a> {
     pub fn new(bytes: &'a [u8], piece: usize, failing: u64) -> OnceFailingReader<'a> {
         OnceFailingReader {
-            rest: Pieces { bytes, piece },
+            rest: ShortReads::new(bytes, piece),
             failing,
             calls: 0,
         }

@@ -4,13 +4,14 @@ ghost use Rattle.std.specs.Prelude.{◌<◌};
 use crate::asserts::assert_same;
 use elf_field::Order;
 use elf_image_outline::{NoSection, Owner, Part, ReplaceFault, scan};
+use elf_image_sources::ShortReads;
 use elf_image_stream::{Fault, read_to_end};
 use elf_image_type::{Image, parse, verdict, write};
 use std::alloc::Global;
 use std::io::Read;
 use std::process::Abort;
 use tests_files::{
-    Field, PartialSource, Pieces, empty_contents, empty_object, executable_of_a_call, filled_gap,
+    Field, PartialSource, empty_contents, empty_object, executable_of_a_call, filled_gap,
     header_alone, one_section, one_segment, set, set_header, two_of_each,
 };
 
@@ -88,11 +89,7 @@ fn assert_written(rt: &impl Abort, alloc: Global, image: &Image<'_>, bytes: &[u8
 
 /// The image of this file, which is read a byte a call, is written as the file.
 fn assert_kept(rt: &impl Abort, alloc: Global, file: &[u8]) -> Result<(), Fault> {
-    let mut reader = Pieces {
-        bytes: file,
-        piece: 1,
-    };
-    let bytes = bytes_read(alloc, &mut reader)?;
+    let bytes = bytes_read(alloc, &mut ShortReads::new(file, 1))?;
     let image = parse(alloc, &bytes)?;
     assert_written(rt, alloc, &image, file);
     Ok(())

@@ -1,5 +1,5 @@
 //! Tests of images: read, edited, written, loaded, scanned from a source and copied; and readers, sources and writers that give or take
-//! little, or fail at one call where `tools/test failing-calls` makes none fail. And of the verdict on a file.
+//! little, or fail at one call where `tools/test failing-calls` makes none fail; sources over other ones. And of the verdict on a file.
 #![tactic(auto)]
 
 #[cfg(test)]
@@ -14,3 +14,5 @@ mod images;
 mod offers;
 #[cfg(test)]
 mod reads;
+#[cfg(test)]
+mod sources;

@@ -3,29 +3,14 @@
 ghost use Rattle.std.specs.Prelude.{◌≡◌, ℕ, ◌≤◌, length, None, Some, true};
 ghost use Rattle.elf_image_rules.specs.Rules.{MAX_LEN, IsFault};
 
+use elf_image_sources::ShortReads;
 use elf_image_stream::Seeking;
 use elf_tool_program::{OpenFault, Opener, run};
 use std::alloc::Global;
-use std::io;
-use std::io::{Cursor, Read};
+use std::io::Cursor;
 
 /// How many bytes a read gives at most.
 const PIECE: usize = 7;
-
-/// Gives its bytes a few at a time, and reports what is left of them.
-#[derive(Drop)]
-pub struct KnownBytes<'a> {
-    bytes: &'a [u8],
-}
-
-impl Read for KnownBytes<'_> {
-    ghost remaining = { λ reader. Some reader.bytes.now };
-
-    fn read(&mut self, buf: &mut [u8]) -> io::Result<usize> {
-        let count = self.bytes.len().min(buf.len()).min(PIECE);
-        self.bytes.read(&mut buf[..count])
-    }
-}
 
 /// Holds one file, under every name.
 #[derive(Drop)]
@@ -34,7 +19,7 @@ pub struct KnownFile<'a> {
 }
 
 impl<'a> Opener for KnownFile<'a> {
-    type Input = KnownBytes<'a>;
+    type Input = ShortReads<&'a [u8]>;
 
     // What seeks in a file of the machine seeks here too.
     type Seek = Seeking<Cursor<&'a [u8]>>;
@@ -43,8 +28,8 @@ impl<'a> Opener for KnownFile<'a> {
 
     ghost opens = { λ _ _. true };
 
-    fn reader(&mut self, _name: &str) -> Result<KnownBytes<'a>, OpenFault> {
-        Ok(KnownBytes { bytes: self.bytes })
+    fn reader(&mut self, _name: &str) -> Result<ShortReads<&'a [u8]>, OpenFault> {
+        Ok(ShortReads::new(self.bytes, PIECE))
     }
 
     fn source(&mut self, _name: &str) -> Result<Seeking<Cursor<&'a [u8]>>, OpenFault> {

@@ -1,6 +1,7 @@
 //! The whole program over fakes: the names that it opens, an opener that wants memory, reads that fail, and a standard error that takes
 //! nothing; and what the machine gives it.
 use crate::asserts::assert_same;
+use elf_image_sources::ShortReads;
 use elf_image_stream::Bytes;
 use elf_tool_program::{
     MachineFiles, OpenFault, Opener, ToolFault, Verdict, check, refuse_words, run, run_to_end,
@@ -11,7 +12,7 @@ use std::io;
 use std::io::{ErrorKind, Write};
 use std::process::Abort;
 use std::test::Fail;
-use tests_files::{OnceFailingReader, PartialSource, Pieces, Sink};
+use tests_files::{OnceFailingReader, PartialSource, Sink};
 
 /// A header alone, of 64 bytes, in little order.
 const HEADER: &[u8; 64] = b"\x7fELF\x02\x01\x01\0\0\0\0\0\0\0\0\0\x01\0\x3e\0\x01\0\0\0\
@@ -25,16 +26,13 @@ pub(crate) const ROOM: usize = 800;
 pub(crate) struct OneFile;
 
 impl Opener for OneFile {
-    type Input = Pieces<'static>;
+    type Input = ShortReads<&'static [u8]>;
 
     type Seek = Bytes<'static>;
 
-    fn reader(&mut self, name: &str) -> Result<Pieces<'static>, OpenFault> {
+    fn reader(&mut self, name: &str) -> Result<ShortReads<&'static [u8]>, OpenFault> {
         match name {
-            "a.o" => Ok(Pieces {
-                bytes: HEADER,
-                piece: 7,
-            }),
+            "a.o" => Ok(ShortReads::new(HEADER, 7)),
             _ => Err(OpenFault::Refused),
         }
     }

@@ -9,6 +9,7 @@ from functools import partial
 from typing import NamedTuple
 
 from . import (
+    application,
     bindings,
     inner_loop,
     c_library,
@@ -31,6 +32,7 @@ from . import (
     generated_programs,
     guarantees,
     hostile_files,
+    import_paths,
     instructions,
     launcher,
     laws,
@@ -62,6 +64,7 @@ from . import (
     shared_tails,
     shown_commands,
     slow_files,
+    source_files,
     sweep,
     types,
     web_page,
@@ -221,6 +224,12 @@ RELEASE = [
         [HERE],
     ),
     Command(
+        "sources",
+        "pack the sources of the library, with a template of an application",
+        lambda it: print(source_files.pack(it.folder, it.version)),
+        [HERE, VERSION],
+    ),
+    Command(
         "conformance",
         "pack the conformance suite, whose version is in conformance/VERSION",
         lambda it: print(conformance.pack(it.folder)),
@@ -262,6 +271,11 @@ RELEASE = [
         definitions_page.write_definitions,
     ),
     Command(
+        "imports",
+        "write docs/generated/IMPORTS.md and specs/ of the crate elf, from what public crates show",
+        import_paths.write_imports,
+    ),
+    Command(
         "lemmas",
         "write docs/generated/LEMMAS.md, from the comments in crates/*/proofs/",
         lemmas_page.write_lemmas,
@@ -288,6 +302,7 @@ MODULES = [
     format,
     definitions,
     names,
+    import_paths,
     rules_tables,
     guarantees,
     doc,
@@ -298,6 +313,7 @@ MODULES = [
     conformance_runs,
     release,
     launcher,
+    application,
     packages,
     pages,
     shown_commands,

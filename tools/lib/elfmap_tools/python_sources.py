@@ -5,6 +5,8 @@ import glob
 from .tree import PACKAGE, TOP
 
 PROGRAMS = [f"{TOP}/tools/{it}" for it in ("dev", "test", "release")]
+# The script of the template of an application, which stands alone.
+TAKE = f"{TOP}/examples/application/take-elfmap"
 BENCHMARKS = [f"{TOP}/bench/{it}" for it in ("growth", "library", "lint", "slow")]
 # The conformance suite, in its folder.
 CONFORMANCE = ["run.py", "elf_conformance/*.py", "cases/*.py", "adapters/*.py"]
@@ -16,7 +18,7 @@ def own_files() -> list[str]:
     reference implementation."""
     modules = [f"{TOP}/tools/lib/elfmap_tools/*.py", f"{TOP}/bench/*.py", f"{TOP}/reference/*.py"]
     modules += [f"{TOP}/conformance/{it}" for it in CONFORMANCE]
-    return [*PROGRAMS, *BENCHMARKS, *files_like(*modules)]
+    return [*PROGRAMS, *BENCHMARKS, TAKE, *files_like(*modules)]
 
 
 def package_files() -> list[str]:

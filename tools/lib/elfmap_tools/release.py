@@ -32,8 +32,11 @@ for command, *_ in COMMANDS:
     MADE += [f"bin/{command}", f"share/man/man1/{command}.1"]
 # Files that other programs read at the top of a repository.
 ALONE = ["action.yml", ".pre-commit-hooks.yaml"]
-# What git has and a release has not: tests of the bindings, their planted bugs, files beside them.
-NOT_RELEASED = re.compile(r"^bindings/((rust|python)/tests/|[^/]*$|\w+/mutations\.txt$)")
+# What git has and a release has not: tests of the bindings, their planted bugs, files beside them;
+# the template of an application, which is in the release of sources.
+NOT_RELEASED = re.compile(
+    r"^bindings/((rust|python)/tests/|[^/]*$|\w+/mutations\.txt$)|^examples/application/"
+)
 PLAIN = {"PATH": "/usr/bin:/bin", "LC_ALL": "C.UTF-8", "MANWIDTH": "80"}
 
 

@@ -45,7 +45,8 @@ PKG_CONFIG = partial(filled, read_text("include/elfmap.pc.in"))
 # The files of the repository that it has: those of the bindings but for their tests, which need the
 # repository.
 FILES = """
-README.md CONTRIBUTING.md CHANGELOG.md SECURITY.md docs/* rules/*.rules examples/* include/elfmap.h
+README.md CONTRIBUTING.md CHANGELOG.md SECURITY.md docs/* rules/*.rules examples/*.c
+include/elfmap.h
 action.yml .pre-commit-hooks.yaml
 bindings/c/*.[ch]
 bindings/rust/Cargo.lock bindings/rust/Cargo.toml bindings/rust/README.md bindings/rust/build.rs

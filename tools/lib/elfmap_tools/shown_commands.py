@@ -5,9 +5,9 @@ A command is a line of a code block that begins with `$ `, or with `>>> ` for Py
 the lines that it prints, on standard output and standard error. There a line `..` means lines left
 out, and ` ..` at the end of a line the rest of it. A page's commands run in its order in a folder
 of their own. That is a release of the version VERSION, unpacked, whose bin/ is on the PATH, with
-its archive and the folders that the repository alone has. Commands within prose are not looked at.
-Skipped are those of SKIPPED, and those of a page of which one needs a tool of another version than
-README.md names, or a file of the machine of another length."""
+its archive, that of the sources, and the folders that the repository alone has. Commands within
+prose are not looked at. Skipped are those of SKIPPED, and those of a page of which one needs a tool
+of another version than README.md names, or a file of the machine of another length."""
 
 import os
 import re
@@ -16,6 +16,7 @@ import sys
 from collections.abc import Iterator
 from typing import Any
 
+from . import source_files
 from .library import BOTH
 from .page_texts import all_pages, blocks
 from .release_files import MAKERS, broken_links, pack
@@ -216,6 +217,7 @@ def try_shown_commands(tally: Tally, options: Options) -> None:
     for command in SKIPPED:
         tally.check(command in every, f"no page shows the command that is skipped: {command}")
     archive = pack(tally.folder, "VERSION")
+    sources = source_files.pack(tally.folder, "VERSION")
     for number, name in enumerate(all_pages()):
         folder = tally.new_folder(str(number))
         wanted("tar", "xf", archive, "--strip-components=1", folder=folder)
@@ -223,4 +225,5 @@ def try_shown_commands(tally: Tally, options: Options) -> None:
         for it in ("bench", "cases", "crates", "reference", "tools"):
             os.symlink(f"{TOP}/{it}", f"{folder}/{it}")
         shutil.copy(archive, folder)
+        shutil.copy(sources, folder)
         Page(tally, name, folder).try_all()

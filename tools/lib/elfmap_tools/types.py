@@ -1,7 +1,7 @@
 """`tools/test types`: mypy, with its strict rules, over the tools, the benchmarks and the package
 for Python."""
 
-from .python_sources import BENCHMARKS, CONFORMANCE, PROGRAMS, SETTINGS, files_like
+from .python_sources import BENCHMARKS, CONFORMANCE, PROGRAMS, SETTINGS, TAKE, files_like
 from .suite import Tally, Test
 from .tree import PACKAGE, TOP, Options, said
 
@@ -15,7 +15,8 @@ CONFORMANCE_FILES = [f"{TOP}/conformance/{it}" for it in CONFORMANCE]
     commands="mypy",
 )
 def try_types(tally: Tally, options: Options) -> None:
-    own = [f"{TOP}/tools/lib/elfmap_tools", *PROGRAMS, f"{TOP}/bench/generated.py", *BENCHMARKS]
+    own = [f"{TOP}/tools/lib/elfmap_tools", *PROGRAMS, f"{TOP}/bench/generated.py"]
+    own += [*BENCHMARKS, TAKE]
     checked = {
         f"{TOP}/tools": ["--config-file", SETTINGS, *own],
         f"{TOP}/conformance": ["--config-file", SETTINGS, *files_like(*CONFORMANCE_FILES)],

@@ -1,0 +1,19 @@
+-- The structs and enums of `elf_image`, as clauses name them.
+pub use Rattle.elf_image_stream.specs.declared.source.Bytes
+pub use Rattle.elf_image_outline.specs.declared.copying.CopyFault
+pub use Rattle.elf_image_stream.specs.declared.source.Failed
+pub use Rattle.elf_image_stream.specs.declared.source.Failures
+pub use Rattle.elf_image_stream.specs.declared.fault.Fault
+pub use Rattle.elf_image_type.specs.declared.image.Image
+pub use Rattle.elf_image_sources.specs.declared.joined.JoinFault
+pub use Rattle.elf_image_sources.specs.declared.joined.Joined
+pub use Rattle.elf_image_outline.specs.declared.outline.NoSection
+pub use Rattle.elf_image_stream.specs.declared.source.Opened
+pub use Rattle.elf_image_outline.specs.declared.outline.Outline
+pub use Rattle.elf_image_outline.specs.declared.outline.Owner
+pub use Rattle.elf_image_outline.specs.declared.outline.Part
+pub use Rattle.elf_image_sources.specs.declared.patched.Patched
+pub use Rattle.elf_image_outline.specs.declared.outline.ReplaceFault
+pub use Rattle.elf_image_stream.specs.declared.source.Seeking
+pub use Rattle.elf_image_sources.specs.declared.short_reads.ShortReads
+pub use Rattle.elf_image_stream.specs.declared.fault.WriteFault

@@ -1,0 +1,21 @@
+-- The structs and enums of `elf_table`, as clauses name them.
+pub use Rattle.elf_table_lists.specs.declared.dynamic.Dynamic
+pub use Rattle.elf_table_lists.specs.declared.dynamic.DynamicIter
+pub use Rattle.elf_table_lists.specs.declared.group.Group
+pub use Rattle.elf_table_lists.specs.declared.group.GroupIter
+pub use Rattle.elf_table_hash.specs.declared.hash.Hash
+pub use Rattle.elf_table_hash.specs.declared.hash_building.HashFault
+pub use Rattle.elf_table_hash.specs.declared.hash.HashIter
+pub use Rattle.elf_table_lists.specs.declared.notes.Note
+pub use Rattle.elf_table_lists.specs.declared.notes.NoteIter
+pub use Rattle.elf_table_lists.specs.declared.notes.Notes
+pub use Rattle.elf_table_symbols.specs.declared.symbols.Place
+pub use Rattle.elf_table_lists.specs.declared.relocations.RelocIter
+pub use Rattle.elf_table_lists.specs.declared.relocations.Relocation
+pub use Rattle.elf_table_lists.specs.declared.relocations.Relocs
+pub use Rattle.elf_table_symbols.specs.declared.strings.Strings
+pub use Rattle.elf_table_symbols.specs.declared.symbols.Symbol
+pub use Rattle.elf_table_symbols.specs.declared.symbols.SymbolIter
+pub use Rattle.elf_table_symbols.specs.declared.symbols.Symbols
+pub use Rattle.elf_table_symbols.specs.declared.table_section.TableKind
+pub use Rattle.elf_table_all.specs.declared.tables.Tables
