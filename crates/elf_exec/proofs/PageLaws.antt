@@ -4,7 +4,7 @@
 use Rattle.std.proofs.Common.{◌≡◌, ◌<◌, ◌≤◌, ◌+◌, ◌-◌, ◌*◌, ◌/◌, ◌%◌, ◌^◌, ℕ, Bool, true, false, List, [], length, map, get_or, refl, sym, ap, subst, ◌∙◌}
 use Rattle.std.proofs.Common.{arith, inl, inr, ◌⊎◌, ap₂}
 use Rattle.std.specs.Prelude.{bit_and, if◌then◌else◌, nat_lt, slice_index, ◌↔◌, ◌==◌, Some}
-use Rattle.std.proofs.Math.Nat.{add-mul, mul-mod_left}
+use Rattle.std.proofs.Math.Nat.{add-mul, zero-mod}
 use Rattle.std.proofs.lemmas.Bool.{cases_lt}
 use Rattle.std.proofs.lemmas.Nat.{and_assoc, div-add-mod', div_below, div-mul-add, le-div, mul-mod_second}
 use Rattle.std.proofs.lemmas.List.{get_or-map, length-map}
@@ -42,12 +42,10 @@ whole n k multiple = (let both = div-add-mod' n k in omega arith)
 divided : (n page size : ℕ) → n % page ≡ 0 → page % size ≡ 0 → n % size ≡ 0
 divided n page size multiple divides =
     ap (λ (x : ℕ). x % size) (sym (whole n page multiple)) ∙ sym (mul-mod_second (n / page) page size) ∙
-    ap (λ (x : ℕ). (n / page * x) % size) divides ∙ ap (λ (x : ℕ). x % size) (nat_zero (n / page)) ∙ zero_mod size
+    ap (λ (x : ℕ). (n / page * x) % size) divides ∙ ap (λ (x : ℕ). x % size) (times_zero (n / page)) ∙ zero-mod size
   where
-    nat_zero : (a : ℕ) → a * 0 ≡ 0
-    nat_zero a = omega arith
-    zero_mod : (k : ℕ) → 0 % k ≡ 0
-    zero_mod k = mul-mod_left 0 k
+    times_zero : (a : ℕ) → a * 0 ≡ 0
+    times_zero a = omega arith
 
 -- what ends where a page begins, or before, and what begins there, or after that, have no page together
 pages_apart : (size start x y : ℕ) → 0 < size → start % size ≡ 0 → x < start → start ≤ y → x / size < y / size
@@ -122,7 +120,7 @@ module _ (fs : List ObjectValue) (m : LinkMapValue) (rules : List RelocRule) (li
       get_or-map member_of sites i (site 0 0) (record { file = 0; section = 0 }) (omega arith) in
       let first = lists.each 0 (omega arith) in
       let this = lists.each i (omega arith) in
-      output.flags ∙ first.1.1.0 ∙ sym this.1.1.0 ∙
+      output.flags ∙ first.1.1 ∙ sym this.1.1 ∙
       ap (λ (p : Member). output_flags (section_in fs p.file p.section).flags) (sym here)
 
   module _ (size : ℕ) (some : 0 < size) (divides : m.page % size ≡ 0) where
@@ -154,7 +152,7 @@ module _ (fs : List ObjectValue) (m : LinkMapValue) (rules : List RelocRule) (li
     -- ---- bytes
 
     place_begins : (without : Bool) (place : ℕ) → (without ≡ false → place % size ≡ 0) → (if without then 0 else place) % size ≡ 0
-    place_begins true place multiple = mul-mod_left 0 size
+    place_begins true place multiple = zero-mod size
     place_begins false place multiple = multiple refl
 
     paged_is_loaded : (j x : ℕ) → j < count → HasAddress (program_header_of segments j) x →
@@ -187,7 +185,7 @@ module _ (fs : List ObjectValue) (m : LinkMapValue) (rules : List RelocRule) (li
       (k i : ℕ) × IsMemberAt m f s k i × ((output_at m k).address ≤ x) × (x < output_end m k)
   in_member f s x (a, there, from, to) =
       let all = outputs fs m rules link b file in
-      let (k, i, k_in, i_in, is) = all.holds f s a there in
+      let (k, i, (k_in, i_in, is)) = all.holds f s a there in
       let within = member_within fs m (output_at m k) (all.members k k_in) i i_in in
       let at = ap or_zero there in
       let bounds = subst
@@ -243,8 +241,12 @@ module _ (fs : List ObjectValue) (m : LinkMapValue) (rules : List RelocRule) (li
         let stands = (outputs fs m rules link b file).members k k_in in
         let p = member_at (output_at m k) 0 in
         let at : (load_in m j).address ≡ member_address m p = ap (λ (load : Load). load.address) is ∙ stands.first in
-        inl (p.file, p.section, subst (λ (a : ℕ). BeginsAt m p.file p.section a) (sym at) (stands.begins 0 stands.some),
-        ap (λ (load : Load). load.flags) is ∙ member_permissions p.file p.section k 0 (k_in, stands.some, refl)))
+        inl (
+          p.file,
+          p.section,
+          subst (λ (a : ℕ). BeginsAt m p.file p.section a) (sym at) (stands.begins 0 stands.some),
+          ap (λ (load : Load). load.flags) is ∙ member_permissions p.file p.section k 0 (k_in, stands.some, refl),
+        ))
     | inr is ↦ inr (ap (λ (load : Load). load.flags) is)
   ]
 

@@ -38,7 +38,14 @@ fn main(rt: HostRuntime) -> io::Result<ExitCode> {
     let first = fs::read(&rt, first.as_str())?;
     let second = fs::read(&rt, second.as_str())?;
     let alloc = rt.alloc();
-    match link_two(alloc, &OPTIONS, &first, &second, OPTIONS.base, &mut rt.stdout()) {
+    match link_two(
+        alloc,
+        &OPTIONS,
+        &first,
+        &second,
+        OPTIONS.base,
+        &mut rt.stdout(),
+    ) {
         Ok(Some(byte)) => eprintln!(rt; "the first byte of its memory: {byte:#x}")?,
         Ok(None) => eprintln!(rt; "it has no memory")?,
         Err(why) => {
@@ -78,7 +85,16 @@ fn link_two<W: io::Write>(
         return Err("the executable can't be parsed");
     };
     let found = image.load(address);
-    prove_loaded(options, mapped.objects(), &RULES, &executable, &image, address, found);
-    to.write_all(&executable).map_err(|_| "the executable can't be written")?;
+    prove_loaded(
+        options,
+        mapped.objects(),
+        &RULES,
+        &executable,
+        &image,
+        address,
+        found,
+    );
+    to.write_all(&executable)
+        .map_err(|_| "the executable can't be written")?;
     Ok(found)
 }
