@@ -3,6 +3,7 @@ pub use Rattle.elf_image.specs.Image
 pub use Rattle.elf_image.specs.ImageView
 pub use Rattle.elf_image.specs.Joined
 pub use Rattle.elf_image.specs.KeepsRules
+pub use Rattle.elf_image.specs.Longest
 pub use Rattle.elf_image.specs.Outline
 pub use Rattle.elf_image.specs.Output
 pub use Rattle.elf_image.specs.Parsing

@@ -9,7 +9,7 @@ use Rattle.std.proofs.lemmas.Bool.{ne_eqb, cases_lt, cases_eq}
 use Rattle.std.proofs.lemmas.List.{get_or_past, get_or-drop, get_or-take, length-map, length-take}
 use Rattle.std.proofs.Math.Nat.{zero-mod}
 use Rattle.std.proofs.lemmas.Nat.{pow_pos}
-use Rattle.elf_link_relocate.proofs.Public.{load_some, load_stands, loads_ascend, memory_bytes}
+use Rattle.elf_link_relocate.proofs.Public.{load_some, load_stands, loads_apart, memory_bytes}
 use Rattle.elf_link_relocate.specs.Loads.{file_size, no_load, load_in, loads}
 use Rattle.elf_exec.specs.Executable.{exec_header, load_part, program_header, program_headers, bytes_from, exec_bytes, header_bytes}
 use Rattle.elf_exec.specs.Executable.{load_parts, table_bytes, ExecFits, IsSoundLink}
@@ -255,7 +255,7 @@ module _ (fs : List ObjectValue) (m : LinkMapValue) (rules : List RelocRule) (li
   pub outputs : OutputsStand fs m
   outputs = outputs_stand link.map.0 fs m link.map.1
 
-  paged : ArePaged m
+  pub paged : ArePaged m
   paged = are_paged link.map.0 fs m link.map.1 link.map.2 link.objects
 
   entry_fits : m.entry < 2 ^ 64
@@ -469,7 +469,7 @@ module _ (fs : List ObjectValue) (m : LinkMapValue) (rules : List RelocRule) (li
       let within = part_within 1 (omega arith) (omega arith) in
       omega arith
 
-  page_multiple : (j : ℕ) → j < count → (load_in m j).no_bits ≡ false → get_or places j 0 % m.page ≡ 0
+  pub page_multiple : (j : ℕ) → j < count → (load_in m j).no_bits ≡ false → get_or places j 0 % m.page ≡ 0
   unfolding load_parts
   page_multiple j lt with_bits =
       multiple_with_bits (load_in m j).no_bits m.page (get_or places j 0) with_bits page_some
@@ -514,7 +514,7 @@ module _ (fs : List ObjectValue) (m : LinkMapValue) (rules : List RelocRule) (li
         let inside = below j lt in
         let first = ap (λ (g : Phdr). g.p_vaddr) (segment_is k (omega arith)) in
         let second = ap (λ (g : Phdr). g.p_vaddr) (segment_is j inside) in
-        let ascend = loads_ascend fs m stand outputs k j earlier inside in
+        let apart = loads_apart fs m stand outputs k j earlier inside in
         omega arith);
   }
     where

@@ -2,5 +2,8 @@
 pub mod Public
 mod ExecText
 mod ExecLaws
+-- That its segments give memory's bytes, and that its pages do.
+mod ExecMemory
+mod PageLaws
 -- That it is an image, and loads the memory of the link.
 mod ExecFile

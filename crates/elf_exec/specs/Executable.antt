@@ -1,11 +1,12 @@
 -- What the executable of a link is, as a file: an image whose loadable segments give each address the byte that memory has there.
 -- (gABI chapter 4, ELF Header; chapter 5, Program Header.)
-use Rattle.std.specs.Prelude.{ℕ, ◌+◌, ◌^◌, ◌<◌, ◌==◌, if◌then◌else◌, List, length, map, ◌≡◌, ◌*◌, [], ◌∷◌, slice_index, ◌↔◌, ◌≤◌}
+use Rattle.std.specs.Prelude.{ℕ, ◌+◌, ◌^◌, ◌%◌, ◌<◌, ◌==◌, if◌then◌else◌, List, length, map, ◌≡◌, ◌*◌, [], ◌∷◌, slice_index, ◌↔◌, ◌≤◌}
 use Rattle.std.specs.Prelude.{MatchOption, Option, None}
 use Rattle.std.specs.List.{flat_map}
 use Rattle.elf_image_type.specs.WrittenFile.{identification}
 use Rattle.elf_link_relocate.specs.declared.load.Load.{Load}
 use Rattle.elf_extent.specs.Place.{Least}
+use Rattle.elf_exec.specs.Pages.{LoadsPages}
 use Rattle.elf_field.specs.Abi.{EHDR_SIZE, ET_EXEC, EV_CURRENT, PHDR_SIZE, PT_LOAD, PN_XNUM}
 use Rattle.elf_field.specs.Headers.{ehdr_bytes, phdr_bytes}
 use Rattle.elf_field.specs.declared.ehdr.Ehdr.{Ehdr}
@@ -16,7 +17,8 @@ use Rattle.elf_image_type.specs.ImageView.{Loads, LoadsFirst}
 use Rattle.elf_image_type.specs.WrittenFile.{spread}
 use Rattle.elf_link_field.specs.declared.rule.RelocRule.{RelocRule}
 use Rattle.elf_link_files.specs.Rows.{AreEach, FirstAt}
-use Rattle.elf_link_map.specs.LinkMap.{LinkMapValue}
+use Rattle.elf_link_files.specs.declared.fault.Options.{Options}
+use Rattle.elf_link_map.specs.LinkMap.{IsLinkMap, LinkMapValue}
 use Rattle.elf_link_map.specs.Standing.{AreObjects, ObjectsFit}
 use Rattle.elf_link_relocate.specs.Fields.{applied_entry_rules}
 use Rattle.elf_link_relocate.specs.Loads.{file_size, load_in, loads}
@@ -127,7 +129,8 @@ pub record ExecFits (fs : List ObjectValue) (m : LinkMapValue) (rules : List Rel
   pub short : length b ≤ MAX_LEN
 
 -- b is an image: it enters at the map's entry, and its loadable segments give an address a byte exactly where memory has that byte there,
--- so that what the first of them with an address gives it is memory's byte; and no other list of bytes is the executable of this link
+-- so that what the first of them with an address gives it is memory's byte; a system with pages of a size that divides the page of the link
+-- can load it page by page; and no other list of bytes is the executable of this link
 pub record LoadsLink (fs : List ObjectValue) (m : LinkMapValue) (rules : List RelocRule) (b : List ℕ) : Type 0 where
   pub accepted : IsFault b None
   pub image : (v : ImageValue) × IsImage v b
@@ -135,13 +138,14 @@ pub record LoadsLink (fs : List ObjectValue) (m : LinkMapValue) (rules : List Re
   pub memory : (v : ImageValue) → Stands v b → (x w : ℕ) → Loads b v.segments x w ↔ IsMemory fs m rules x w
   pub load : (v : ImageValue) → Stands v b → (x : ℕ) (found : Option ℕ) → LoadsFirst b v.segments x found →
       MatchOption found ((w : ℕ) → ¬ IsMemory fs m rules x w) (IsMemory fs m rules x)
+  pub pages : (size : ℕ) → 0 < size → m.page % size ≡ 0 → LoadsPages size fs m rules b
   pub one : (c : List ℕ) → ExecLaid fs m rules c → c ≡ b
 
--- b is the executable of a link of these objects, by some options
-abbrev pub LoadsSomeLink : List ObjectValue → List RelocRule → List ℕ → Type 0
-LoadsSomeLink fs rules b = (m : LinkMapValue) × IsSoundMap fs m × LoadsLink fs m rules b
+-- b is the executable of the link of these objects by these options
+abbrev pub LoadsLinkOf : Options → List ObjectValue → List RelocRule → List ℕ → Type 0
+LoadsLinkOf opt fs rules b = (m : LinkMapValue) × IsLinkMap opt fs m × LoadsLink fs m rules b
 
--- what is found at an address is the byte that the memory of such a link has there, and nothing where it has none
-abbrev pub IsMemoryOf : List ObjectValue → List RelocRule → ℕ → Option ℕ → Type 0
-IsMemoryOf fs rules x found =
-    (m : LinkMapValue) × IsSoundMap fs m × MatchOption found ((w : ℕ) → ¬ IsMemory fs m rules x w) (IsMemory fs m rules x)
+-- what is found at an address is the byte that the memory of this link has there, and nothing where it has none
+abbrev pub IsMemoryOf : Options → List ObjectValue → List RelocRule → ℕ → Option ℕ → Type 0
+IsMemoryOf opt fs rules x found =
+    (m : LinkMapValue) × IsLinkMap opt fs m × MatchOption found ((w : ℕ) → ¬ IsMemory fs m rules x w) (IsMemory fs m rules x)

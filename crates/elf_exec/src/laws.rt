@@ -6,12 +6,13 @@ ghost use Rattle.elf_link_field.specs.declared.rule.RelocRule.{RelocRule};
 ghost use Rattle.elf_link_relocate.specs.Linked.{LinkedValue, IsSoundMap, IsSoundLinked};
 ghost use Rattle.elf_link_relocate.specs.Fields.{applied_entry_rules};
 ghost use Rattle.elf_object_type.specs.Object.{ObjectValue};
-ghost use Rattle.elf_exec.specs.Executable.{ExecLaid, ExecFits, LoadsLink, LoadsSomeLink, IsMemoryOf, IsSoundLink};
+ghost use Rattle.elf_exec.specs.Executable.{ExecLaid, ExecFits, LoadsLink, LoadsLinkOf, IsMemoryOf, IsSoundLink};
 ghost use Rattle.elf_image_outline.specs.Image.{IsImage};
 ghost use Rattle.elf_image_type.specs.ImageView.{LoadsFirst};
 
 use elf_image_type::Image;
 use elf_link_field::RelocRule;
+use elf_link_files::Options;
 use elf_object_type::Object;
 
 /// If no rule of the link is broken for objects, their map and relocation rules, wherever they came from, their executable is an image. Its
@@ -35,9 +36,10 @@ pub fn one_exec()
 {}
 
 /// Proves that what [`load`](Image::load) found at an address of an executable's image is the byte that the memory of the link has there:
-/// `file` is the executable of these objects, `image` its image. A contract says so for every image and address; this call makes the
-/// checker use it for these. It does nothing.
+/// `file` is the executable of these objects by these options, `image` its image. A contract says so for every image and address; this call
+/// makes the checker use it for these. It does nothing.
 pub fn prove_loaded(
+    options: &Options<'_>,
     objects: &[Object<'_>],
     rules: &[RelocRule],
     file: &[u8],
@@ -45,8 +47,8 @@ pub fn prove_loaded(
     address: u64,
     found: Option<u8>,
 )
-    requires executable { LoadsSomeLink objects.now rules.now file.now }
+    requires executable { LoadsLinkOf options.now objects.now rules.now file.now }
     requires image { IsImage image.now file.now }
     requires found { (b : List ℕ) × IsImage image.now b × LoadsFirst b image.now.segments address found }
-    ensures { IsMemoryOf objects.now rules.now address found }
+    ensures { IsMemoryOf options.now objects.now rules.now address found }
 {}

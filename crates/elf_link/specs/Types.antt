@@ -8,6 +8,7 @@ pub use Rattle.elf_link_map.specs.declared.link_map.LinkMap
 pub use Rattle.elf_link_relocate.specs.declared.linked.Linked
 pub use Rattle.elf_link_relocate.specs.declared.load.Load
 pub use Rattle.elf_link_outputs.specs.declared.placing.Member
+pub use Rattle.elf_link_relocate.specs.declared.linked.Mapped
 pub use Rattle.elf_link_map.specs.declared.bindings.Named
 pub use Rattle.elf_link_files.specs.declared.fault.Options
 pub use Rattle.elf_link_outputs.specs.declared.placing.Output

@@ -2,6 +2,7 @@
 //!
 //! [`map`] returns the [`LinkMap`] of some objects: which sections are kept, what each name is bound to, and the address of each section.
 //! If a rule of the link is broken, it returns the first one ([`rules`]). [`relocate`] puts the number of each relocation into its field.
+//! [`Mapped`] holds objects with their map, and relocates them by any rules.
 //!
 //! ```
 //! let options = Options {
@@ -26,4 +27,4 @@ pub use elf_link_field::{Form, Range, RelocRule, Width};
 pub use elf_link_files::{LinkFault, Options};
 pub use elf_link_map::{Binding, LinkMap, Named, map};
 pub use elf_link_outputs::{Common, Member, Output};
-pub use elf_link_relocate::{Identity, Linked, relocate};
+pub use elf_link_relocate::{Identity, Linked, Mapped, relocate};

@@ -225,8 +225,9 @@ at_commons m k le = rw (le-ltb k (length m.outputs) le) refl
 
 module _ (fs : List ObjectValue) (m : LinkMapValue) (stand : ArePlacedApart fs m) (outputs : OutputsStand fs m) where
   -- of what takes memory, an output begins where each output before it ends, or after that, and so do the commons
-  loads_ascend_at : (k l : ℕ) → k < l → l ≤ length m.outputs → 0 < (load_at m l).size → (load_at m k).address ≤ (load_at m l).address
-  loads_ascend_at k l before le some =
+  loads_apart_at : (k l : ℕ) → k < l → l ≤ length m.outputs → 0 < (load_at m l).size →
+      (load_at m k).address + (load_at m k).size ≤ (load_at m l).address
+  loads_apart_at k l before le some =
       let here = at_output m k (omega arith) in
       elim (cases_lt l (length m.outputs)) [
         | inl lt ↦
@@ -240,11 +241,11 @@ module _ (fs : List ObjectValue) (m : LinkMapValue) (stand : ArePlacedApart fs m
             rw (here, there) (omega arith))
       ]
 
-  pub loads_ascend : (i j : ℕ) → i < j → j < length (loads m) → (load_in m i).address ≤ (load_in m j).address
-  loads_ascend i j before lt =
+  pub loads_apart : (i j : ℕ) → i < j → j < length (loads m) → (load_in m i).address + (load_in m i).size ≤ (load_in m j).address
+  loads_apart i j before lt =
       let (k, l, ordered, le, first, second) = loads_ordered m i j before lt in
       let some = subst (λ (load : Load). 0 < load.size) second (load_some m j lt) in
-      rw (first, second) (loads_ascend_at k l ordered le some)
+      rw (first, second) (loads_apart_at k l ordered le some)
 
   module _ (paged : ArePaged m) where
     output_stands : (k : ℕ) → k < length m.outputs → LoadStands m (output_load k (output_at m k))

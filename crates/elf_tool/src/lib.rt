@@ -14,7 +14,9 @@ pub mod laws;
 pub use elf_link_field::{Form, Range, RelocRule, Width};
 pub use elf_link_files::Options;
 pub use elf_tool_check::{Ended, OpenFault, Opener, Refusal, Status, ToolFault, Verdict, check};
-pub use elf_tool_link::{link, map};
+pub use elf_tool_link::{
+    FileFault, Unlinked, link, link_files, map, map_files, mapped_files, objects_of,
+};
 pub use elf_tool_program::{check_source, run, run_to_end};
 pub use elf_tool_rewrite::rewrite;
 pub use elf_tool_rule_file::{RulesFault, read_rules};

@@ -4,7 +4,8 @@
 //! of these whether they link. [`map_length`] and [`link_length`] say how long what is written of them is. [`record_of`] finds the record
 //! that a broken rule of the link is about, and [`first_definition`] the definition before one that is the second.
 //!
-//! `map` and `link` begin with `mapped_files`. It returns the objects with their link map, or what is refused, in an `Unlinked`.
+//! `map` and `link` begin with [`mapped_files`]. It returns the objects ([`objects_of`]) with their link map, or what is refused, in an
+//! [`Unlinked`].
 //!
 //! ```
 //! // `bytes` are those of an object file. A base that is no multiple of the page is the first of the link's rules.
@@ -33,6 +34,7 @@ pub use elf_link_map::Options;
 pub use elf_tool_check::{Refusal, ToolFault, Verdict};
 pub use lengths::{link_length, map_length};
 pub use linking::{link, link_files};
+pub use mapped::{FileFault, Unlinked, mapped_files, objects_of};
 pub use mapping::{map, map_files};
 pub use places::{RecordPlace, record_of};
 pub use verdicts::link_verdict;

@@ -11,15 +11,18 @@ use elf_object_type::Object;
 use elf_tool_check::Refusal;
 use std::alloc::{AllocError, Global};
 use std::hash::{BuildHasherDefault, FoldHasher};
+use thiserror::Error;
 
 // The objects that files are.
 
 /// Why files are not all objects.
-#[derive(Clone, Copy)]
+#[derive(Clone, Copy, Debug, PartialEq, Eq, Error)]
 pub enum FileFault {
-    /// This file breaks the refusal rule of this number, first at this offset in it, and all before it are objects.
+    /// This file breaks the refusal rule of this number, first at this offset in it, in bytes, and all before it are objects.
+    #[error("file {file} breaks rule {rule} at {at}")]
     Refused { file: usize, rule: u16, at: u64 },
     /// An allocation failed.
+    #[error("out of memory")]
     OutOfMemory,
 }
 
@@ -67,11 +70,13 @@ fn object_in<'a>(alloc: Global, bytes: &'a [u8]) -> Result<Object<'a>, BytesFaul
 }
 
 /// Why files are not linked.
-#[derive(Clone, Copy)]
+#[derive(Clone, Copy, Debug, PartialEq, Eq, Error)]
 pub enum Unlinked {
     /// A file is refused, or a rule of the link is broken.
+    #[error("{0}")]
     Refused(Refusal),
     /// An allocation failed.
+    #[error("out of memory")]
     OutOfMemory,
 }
 

@@ -1,8 +1,8 @@
 """`tools/test linked-runs`: programs run the same by ld and by elfmap: of C, of C++, and of C over
 Debian's klibc, which has the objects of its archive that it needs. Each executable is the
-reference's, and `check`, readelf and eu-elflint accept it. Objects that went through `rewrite` give
-the same executable and the same map, byte for byte. Objects without unneeded symbols give the same
-executable."""
+reference's, and `check`, readelf and eu-elflint accept it. The kernel maps its pages with the
+permissions that the sections ask for. Objects that went through `rewrite` give the same executable
+and the same map, byte for byte. Objects without unneeded symbols give the same executable."""
 
 import os
 import re
@@ -71,6 +71,10 @@ PROGRAMS = [
 ]
 # Where each program is placed, and with which page; the kernel maps by pages of 0x1000.
 PLACES = (("0x400000", "0x1000"), ("0x10000000", "0x200000"))
+KERNEL_PAGE = 0x1000
+# The flags of sections that ask for a permission (gABI chapter 4, sh_flags).
+SHF_WRITE = 1
+SHF_EXECINSTR = 4
 
 
 def with_klibc(shop: Workshop, objects: list[str]) -> list[str]:
@@ -114,6 +118,41 @@ def difference(shop: Workshop, objects: list[str], entry: str, base: str, page: 
     return next(filter(None, complaints), "")
 
 
+def pages_of(shop: Workshop, objects: list[str], base: str, page: str) -> dict[int, str]:
+    """The permissions of each page that the link map has, as /proc/PID/maps writes them."""
+    words = ["map", "--base", base, "--page", page, *objects]
+    pages = {}
+    for line in shop.wanted(PROGRAM, *words).splitlines():
+        words = line.split()
+        if words[0] not in ("output", "common"):
+            continue
+        start, length = int(words[1], 16), int(words[2], 16)
+        flags = int(words[4], 16) if words[0] == "output" else SHF_WRITE
+        letters = f"r{'w' if flags & SHF_WRITE else '-'}{'x' if flags & SHF_EXECINSTR else '-'}p"
+        for number in range(start // KERNEL_PAGE, -(-(start + length) // KERNEL_PAGE)):
+            pages[number] = letters
+    return pages
+
+
+def mapped_otherwise(shop: Workshop, objects: list[str], base: str, page: str) -> str:
+    """Which page of the executable the kernel maps with other permissions, or also without one."""
+    shop.link(objects, base, page, "start")
+    shop.wanted("chmod", "755", "by-elfmap")
+    pages = pages_of(shop, objects, base, page)
+    mapped = {}
+    for line in shop.wanted("./by-elfmap", "word").splitlines():
+        if line.endswith("]"):
+            continue
+        places, letters = line.split()[:2]
+        start, end = (int(it, 16) // KERNEL_PAGE for it in places.split("-"))
+        mapped.update(dict.fromkeys(range(start, end), letters))
+    wrong = [it for it in pages | mapped if pages.get(it) != mapped.get(it)]
+    kinds = set(pages.values())
+    if kinds != {"r--p", "r-xp", "rw-p", "rwxp"}:
+        return f"the program has only pages of the kinds {kinds}"
+    return f"pages {[hex(it * KERNEL_PAGE) for it in wrong]} are mapped otherwise" if wrong else ""
+
+
 @Test(
     "linked-runs",
     "programs run the same by ld and by elfmap",
@@ -132,3 +171,8 @@ def try_linked_runs(tally: Tally, options: Options) -> None:
         for base, page in PLACES:
             wrong = difference(shop, objects, program.entry, base, page)
             tally.check(not wrong, f"{title}: {wrong}")
+    shop = Workshop(tally.new_folder("pages"))
+    objects = [shop.compiled("gcc", "pages_main.c", C_FLAGS)]
+    for base, page in PLACES:
+        wrong = mapped_otherwise(shop, objects, base, page)
+        tally.check(not wrong, f"pages_main.c by pages of {page}: {wrong}")
