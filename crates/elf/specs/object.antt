@@ -10,4 +10,5 @@ pub use Rattle.elf_object.specs.PlacedObject
 pub use Rattle.elf_object.specs.SectionsLeftOut
 pub use Rattle.elf_object.specs.StringTable
 pub use Rattle.elf_object.specs.StringTables
+pub use Rattle.elf_object.specs.Without
 pub use Rattle.elf_object.specs.Types

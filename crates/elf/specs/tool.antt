@@ -1,19 +1,25 @@
 -- The definitions of `elf_tool`.
+pub use Rattle.elf_tool.specs.Agree
+pub use Rattle.elf_tool.specs.Alike
 pub use Rattle.elf_tool.specs.Check
 pub use Rattle.elf_tool.specs.CheckSource
 pub use Rattle.elf_tool.specs.Command
+pub use Rattle.elf_tool.specs.Definitions
 pub use Rattle.elf_tool.specs.Ending
 pub use Rattle.elf_tool.specs.Engine
 pub use Rattle.elf_tool.specs.FileLines
 pub use Rattle.elf_tool.specs.Inputs
 pub use Rattle.elf_tool.specs.Laws
+pub use Rattle.elf_tool.specs.LeftOut
 pub use Rattle.elf_tool.specs.Line
 pub use Rattle.elf_tool.specs.Link
 pub use Rattle.elf_tool.specs.Map
 pub use Rattle.elf_tool.specs.ObjectFiles
+pub use Rattle.elf_tool.specs.Order
 pub use Rattle.elf_tool.specs.Program
 pub use Rattle.elf_tool.specs.Rewrite
 pub use Rattle.elf_tool.specs.RuleFile
 pub use Rattle.elf_tool.specs.Show
+pub use Rattle.elf_tool.specs.Verdicts
 pub use Rattle.elf_tool.specs.Words
 pub use Rattle.elf_tool.specs.Types

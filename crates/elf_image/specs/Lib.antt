@@ -13,9 +13,6 @@ pub use Rattle.elf_image_type.specs.ImageView
 pub use Rattle.elf_image_type.specs.Parsing
 pub use Rattle.elf_image_type.specs.WrittenFile
 pub use Rattle.elf_image_outline.specs.Scanning
-pub use Rattle.elf_image_rules.specs.KeepsRules
-pub use Rattle.elf_image_type.specs.Parsing
-pub use Rattle.elf_image_type.specs.WrittenFile
 pub use Rattle.elf_image_stream.specs.Source
 pub use Rattle.elf_image_stream.specs.Reading
 pub use Rattle.elf_image_sources.specs.Joined

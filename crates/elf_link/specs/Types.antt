@@ -1,5 +1,6 @@
 -- The structs and enums of `elf_link`, as clauses name them.
 pub use Rattle.elf_link_map.specs.declared.bindings.Binding
+pub use Rattle.elf_link_names.specs.declared.name_rules.Choice
 pub use Rattle.elf_link_outputs.specs.declared.placing.Common
 pub use Rattle.elf_link_field.specs.declared.rule.Form
 pub use Rattle.elf_link_relocate.specs.declared.linked.Identity
@@ -7,12 +8,13 @@ pub use Rattle.elf_link_files.specs.declared.fault.LinkFault
 pub use Rattle.elf_link_map.specs.declared.link_map.LinkMap
 pub use Rattle.elf_link_relocate.specs.declared.linked.Linked
 pub use Rattle.elf_link_relocate.specs.declared.load.Load
-pub use Rattle.elf_link_outputs.specs.declared.placing.Member
 pub use Rattle.elf_link_relocate.specs.declared.linked.Mapped
+pub use Rattle.elf_link_outputs.specs.declared.placing.Member
 pub use Rattle.elf_link_map.specs.declared.bindings.Named
 pub use Rattle.elf_link_files.specs.declared.fault.Options
 pub use Rattle.elf_link_outputs.specs.declared.placing.Output
 pub use Rattle.elf_link_field.specs.declared.rule.Range
 pub use Rattle.elf_link_field.specs.declared.rule.RelocRule
 pub use Rattle.elf_link_files.specs.declared.site.Site
+pub use Rattle.elf_link_files.specs.declared.inputs.SymbolId
 pub use Rattle.elf_link_field.specs.declared.rule.Width
