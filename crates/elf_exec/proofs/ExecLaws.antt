@@ -2,42 +2,32 @@
 -- (`PageLaws`). No other list of bytes is its executable (`one_exec`). Its header and segments are read as they were written (`exec_read`).
 use Rattle.elf_exec.proofs.ExecMemory.{loads_memory, memory_loads}
 use Rattle.elf_exec.proofs.PageLaws.{loads_pages}
-use Rattle.std.proofs.Common.{◌≡◌, ◌<◌, ◌≤◌, ◌+◌, ◌-◌, ◌^◌, ℕ, Bool, true, false, List, [], length, get_or, refl, sym, ap, subst, ◌∙◌, inl}
-use Rattle.std.proofs.Common.{inr, arith, ap₂, Ok, Err}
-use Rattle.std.specs.Prelude.{◌⊎◌, if◌then◌else◌, nat_lt, slice_index, ◌↔◌, MatchOption, None, Option, Some}
-use Rattle.std.proofs.lemmas.Bool.{le-ltb, lt-ltb}
+use Rattle.std.proofs.Common.{◌≡◌, ◌<◌, ◌+◌, ◌-◌, ◌^◌, ℕ, List, [], get_or, sym, ap, subst, ◌∙◌, arith, ap₂, Ok, Err}
+use Rattle.std.specs.Prelude.{slice_index, ◌↔◌, MatchOption, None, Option, Some}
 use Rattle.std.proofs.lemmas.List.{ext_get_or}
 use Rattle.std.specs.Io.KnownBytes.{Appends}
-use Rattle.elf_exec.proofs.ExecFile.{content_byte, content_long, outputs, segment_is, segments_long, size_with_bits, stand, exec_accepted}
-use Rattle.elf_exec.proofs.ExecFile.{exec_is_bytes, exec_read}
+use Rattle.elf_exec.proofs.ExecFile.{exec_accepted, exec_is_bytes, exec_read}
 use Rattle.elf_exec.proofs.ExecText.{exec_laid, length-exec, sent_text, text_is}
-use Rattle.elf_link_relocate.proofs.Public.{load_of, load_there, at_commons, at_output, commons_ascend, commons_end, commons_some}
-use Rattle.elf_link_relocate.proofs.Public.{any_options, field_in_content, memory_in, memory_zero, one_byte, some_byte}
-use Rattle.elf_exec.specs.ExecWriting.{HasExecOf, exec_end, load_contents, IsLoadable, WritesExec, exec_text, IsPlacedExec}
-use Rattle.elf_exec.specs.ExecWriting.{PlacedExecValue}
-use Rattle.elf_link_relocate.specs.Loads.{load_at, load_in, loads}
-use Rattle.elf_exec.specs.Executable.{program_headers, ExecFits, IsSoundLink, AreLoadBytes, ExecLaid, bytes_from, exec_bytes, load_parts}
-use Rattle.elf_exec.specs.Executable.{LoadsLink}
+use Rattle.elf_link_relocate.proofs.Public.{any_options, one_byte}
+use Rattle.elf_exec.specs.ExecWriting.{HasExecOf, exec_end, load_contents, IsLoadable, WritesExec, exec_text, IsPlacedExec, PlacedExecValue}
+use Rattle.elf_link_relocate.specs.Loads.{load_in, loads}
+use Rattle.elf_exec.specs.Executable.{ExecFits, IsSoundLink, AreLoadBytes, ExecLaid, bytes_from, exec_bytes, load_parts, LoadsLink}
 use Rattle.elf_link_relocate.specs.declared.load.Load.{Load}
 use Rattle.elf_extent.proofs.Public.{least_places, same_least}
 use Rattle.elf_field.specs.declared.ehdr.Ehdr.{Ehdr}
 use Rattle.elf_field.specs.declared.phdr.Phdr.{Phdr}
 use Rattle.elf_image_outline.specs.Image.{ImageValue, Stands}
-use Rattle.elf_image_rules.specs.Tables.{program_header_of}
 use Rattle.elf_image_stream.proofs.Public.{stopped_whole}
 use Rattle.elf_image_stream.specs.Output.{StoppedIn, WentOut}
 use Rattle.elf_image_type.proofs.Public.{some_image}
-use Rattle.elf_image_type.specs.ImageView.{HasAddress, Loads, LoadsFirst, loaded}
+use Rattle.elf_image_type.specs.ImageView.{Loads, LoadsFirst, loaded}
 use Rattle.elf_link_field.specs.declared.rule.RelocRule.{RelocRule}
-use Rattle.elf_link_files.specs.Files.{section_in}
 use Rattle.elf_link_files.specs.Rows.{FirstAt}
 use Rattle.elf_link_map.specs.LinkMap.{LinkMapValue}
-use Rattle.elf_link_map.specs.Standing.{AreObjects, ObjectsFit, member_at, output_at}
-use Rattle.elf_link_outputs.specs.Outputs.{is_no_bits, memory_size}
-use Rattle.elf_link_outputs.specs.Placed.{common_at}
-use Rattle.elf_link_relocate.specs.Fields.{content_of, applied_entry_rules}
-use Rattle.elf_link_relocate.specs.Linked.{HasContentAt, IsInMemory, IsInOutputAt, IsMemory, LinkedValue, IsSoundMap, IsSoundLinked}
-use Rattle.elf_object_type.specs.Object.{BodyValue, ObjectValue, bits, group, no_bits, relocs}
+use Rattle.elf_link_map.specs.Standing.{AreObjects, ObjectsFit}
+use Rattle.elf_link_relocate.specs.Fields.{applied_entry_rules}
+use Rattle.elf_link_relocate.specs.Linked.{IsMemory, LinkedValue, IsSoundMap, IsSoundLinked}
+use Rattle.elf_object_type.specs.Object.{ObjectValue}
 
 -- ---- what is found at an address, where the segments give what memory has there
 

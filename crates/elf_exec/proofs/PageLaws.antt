@@ -1,30 +1,30 @@
 -- A system that loads an executable by pages loads the memory of its link. Segments begin at multiples of the page, and those of the file
 -- at multiples too, so that a page of memory is one of the file (`paged_is_loaded`). A segment ends before the page of the next one
 -- (`pages_apart`). Its permissions are those of its output, which are those of each member (`member_flags`).
-use Rattle.std.proofs.Common.{◌≡◌, ◌<◌, ◌≤◌, ◌+◌, ◌-◌, ◌*◌, ◌/◌, ◌%◌, ◌^◌, ℕ, Bool, true, false, List, [], length, map, get_or, refl, sym, ap, subst, ◌∙◌}
-use Rattle.std.proofs.Common.{arith, inl, inr, ◌⊎◌, ap₂}
-use Rattle.std.specs.Prelude.{bit_and, if◌then◌else◌, nat_lt, slice_index, ◌↔◌, ◌==◌, Some}
+use Rattle.std.proofs.Common.{◌≡◌, ◌<◌, ◌≤◌, ◌+◌, ◌-◌, ◌*◌, ◌/◌, ◌%◌, ◌^◌, ℕ, Bool, true, false, List, length, map, get_or, refl, sym, ap}
+use Rattle.std.proofs.Common.{subst, ◌∙◌, arith, inl, inr, ap₂}
+use Rattle.std.specs.Prelude.{bit_and, if◌then◌else◌, nat_lt, slice_index, ◌↔◌, ◌==◌}
 use Rattle.std.proofs.Math.Nat.{add-mul, zero-mod}
 use Rattle.std.proofs.lemmas.Bool.{cases_lt}
-use Rattle.std.proofs.lemmas.Nat.{and_assoc, div-add-mod', div_below, div-mul-add, le-div, mul-mod_second}
+use Rattle.std.proofs.lemmas.Nat.{and_assoc, div-add-mod', div_below, le-div, mul-mod_second}
 use Rattle.std.proofs.lemmas.List.{get_or-map, length-map}
 use Rattle.elf_exec.proofs.ExecFile.{exec_read, outputs, page_multiple, paged as are_paged, segment_is, segments_long, stand}
 use Rattle.elf_exec.proofs.ExecMemory.{loads_memory, memory_loads}
 use Rattle.elf_exec.specs.Executable.{ExecFits, IsSoundLink, program_header, program_headers}
-use Rattle.elf_exec.specs.Pages.{HasPage, HaveOwnPages, IsAsAsked, IsAskedFor, IsInSection, LoadsByPage, LoadsPages, paged, paged_offset}
+use Rattle.elf_exec.specs.Pages.{HaveOwnPages, IsAsAsked, IsAskedFor, IsInSection, LoadsByPage, LoadsPages, paged}
 use Rattle.elf_field.specs.Abi.{PF_R, PF_W, PF_X, SHF_EXECINSTR, SHF_GROUP, SHF_WRITE}
 use Rattle.elf_field.specs.declared.phdr.Phdr.{Phdr}
 use Rattle.elf_image_outline.specs.Image.{ImageValue, Stands}
 use Rattle.elf_image_rules.specs.Tables.{program_header_of}
-use Rattle.elf_image_type.specs.ImageView.{HasAddress, Loads, loaded}
+use Rattle.elf_image_type.specs.ImageView.{HasAddress, loaded}
 use Rattle.elf_link_field.specs.declared.rule.RelocRule.{RelocRule}
 use Rattle.elf_link_files.specs.Files.{section_in}
-use Rattle.elf_link_files.specs.Rows.{site, site_at}
+use Rattle.elf_link_files.specs.Rows.{site}
 use Rattle.elf_link_map.proofs.Public.{member_within}
 use Rattle.elf_link_map.specs.LinkMap.{LinkMapValue}
-use Rattle.elf_link_map.specs.Standing.{ArePaged, IsMemberAt, member_address, member_at, or_zero, output_at, output_end, size_in, BeginsAt}
-use Rattle.elf_link_outputs.specs.Outputs.{output_flags, section_at_site}
-use Rattle.elf_link_outputs.specs.Placed.{common_at, member_of, members_at}
+use Rattle.elf_link_map.specs.Standing.{IsMemberAt, member_address, member_at, or_zero, output_at, output_end, size_in, BeginsAt}
+use Rattle.elf_link_outputs.specs.Outputs.{output_flags}
+use Rattle.elf_link_outputs.specs.Placed.{member_of, members_at}
 use Rattle.elf_link_outputs.specs.declared.placing.Member.{Member}
 use Rattle.elf_link_relocate.proofs.Public.{commons_some, load_of, load_some, load_stands, loads_apart}
 use Rattle.elf_link_relocate.specs.Linked.{IsMemory}
@@ -128,8 +128,10 @@ module _ (fs : List ObjectValue) (m : LinkMapValue) (rules : List RelocRule) (li
 
     begins : (j : ℕ) → j < count → (load_in m j).address % size ≡ 0
     begins j lt =
-        divided (load_in m j).address m.page size
-        (load_stands fs m (stand fs m rules link b file) (outputs fs m rules link b file) (are_paged fs m rules link b file) j lt).paged divides
+        let apart = stand fs m rules link b file in
+        let all = outputs fs m rules link b file in
+        let stands = load_stands fs m apart all (are_paged fs m rules link b file) j lt in
+        divided (load_in m j).address m.page size stands.paged divides
 
     page_before : (i j x y : ℕ) → i < j → j < count → HasLoad (load_in m i) x → HasLoad (load_in m j) y → x / size < y / size
     page_before i j x y before lt (x_from, x_to) (y_from, y_to) =
@@ -164,7 +166,8 @@ module _ (fs : List ObjectValue) (m : LinkMapValue) (rules : List RelocRule) (li
         (λ (is_load, from, to). ap
         (λ (offset : ℕ). if nat_lt (x - load.address) (file_size load) then slice_index b offset else 0)
         (offset_there size (if load.no_bits then 0 else place) load.address x some
-        (place_begins load.no_bits place (λ with_bits. divided place m.page size (page_multiple fs m rules link b file j lt with_bits) divides))
+        (place_begins load.no_bits place
+        (λ with_bits. divided place m.page size (page_multiple fs m rules link b file j lt with_bits) divides))
         (begins j lt) from))
 
     paged_memory : (x w : ℕ) → LoadsByPage size b segments x w → IsMemory fs m rules x w
@@ -221,7 +224,8 @@ module _ (fs : List ObjectValue) (m : LinkMapValue) (rules : List RelocRule) (li
             let (l, l_in, is) = found in
             let (l_from, l_to) = subst (λ (load : Load). HasLoad load x) is there in
             let same = one_output l k x l_in member.0 l_from l_to from to in
-            ap (λ (load : Load). load.flags) is ∙ ap (λ (n : ℕ). segment_flags (output_at m n).flags) same ∙ member_permissions f s k i member)
+            ap (λ (load : Load). load.flags) is ∙ ap (λ (n : ℕ). segment_flags (output_at m n).flags) same ∙
+            member_permissions f s k i member)
         | inr is ↦ (
             let (l_from, l_to) = subst (λ (load : Load). HasLoad load x) is there in
             let commons = commons_some (length m.outputs) m.commons

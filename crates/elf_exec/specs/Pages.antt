@@ -28,8 +28,8 @@ HaveOwnPages size segments = (i j page : ℕ) → i < length segments → j < le
 
 -- ---- bytes
 
--- the offset of the byte of the file that is at an address of a segment, if the page of the file that has p_offset becomes the page of memory
--- that has p_vaddr, and each later one of the file the next one of memory
+-- the offset of the byte of the file that is at an address of a segment, if the page of the file that has p_offset becomes the page of
+-- memory that has p_vaddr, and each later one of the file the next one of memory
 abbrev pub paged_offset : ℕ → Phdr → ℕ → ℕ
 paged_offset size segment x = (segment.p_offset / size + (x / size - segment.p_vaddr / size)) * size + x % size
 

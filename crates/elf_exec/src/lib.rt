@@ -1,7 +1,8 @@
 //! The executable of a link (gABI chapter 4, ELF Header; chapter 5, Program Header): one file whose segments of type `PT_LOAD` are the
 //! memory of the link. Which segments there are, and where their bytes are, is this project's profile.
 //!
-//! [`write_exec`] writes it for relocated bytes, and [`exec_length`] says how long it is. That of no files is a header alone:
+//! [`write_exec`] writes it for relocated bytes, and [`exec_length`] says how long it is. A system can load it page by page, if the size of
+//! its pages divides the page of the link. The executable of no files is a header alone:
 //!
 //! ```
 //! let map = map(alloc, &objects, &options, hasher)?;

@@ -120,7 +120,8 @@ impl<'m, 'a> Linked<'m, 'a> {
 
 // Objects that are linked, with their map.
 
-/// Some objects, their link map, and the index of the name of each symbol.
+/// Objects that are linked, with their link map. It holds both, where [`Linked`] borrows them. To relocate by several lists of relocation
+/// rules, the names are looked up once.
 #[derive(Drop)]
 pub struct Mapped<'a> {
     objects: Vec<Object<'a>>,
@@ -140,7 +141,10 @@ impl<'a> Model for Mapped<'a> {
 }
 
 impl<'a> Mapped<'a> {
-    /// These objects with their link map.
+    /// These objects with their link map, as `map` returns it.
+    ///
+    /// [`LinkFault::Rule`] comes with the first of rules 1 to 11 of the link that is broken, [`LinkFault::OutOfMemory`] if an allocation
+    /// fails.
     pub fn new<S: BuildHasher + Drop>(
         alloc: Global,
         objects: Vec<Object<'a>>,
@@ -156,21 +160,24 @@ impl<'a> Mapped<'a> {
         Ok(Mapped { objects, link })
     }
 
-    /// The objects.
+    /// The objects, by the position of their file.
     pub fn objects(&self) -> &[Object<'a>]
         ensures { result.now ≡ self.now.objects }
     {
         &self.objects
     }
 
-    /// The map.
+    /// Their link map.
     pub fn map(&self) -> &LinkMap<'a>
         ensures { result.now ≡ self.now.map }
     {
         &self.link.map
     }
 
-    /// The relocated bytes of the objects, by these relocation rules.
+    /// The relocated bytes of the objects by these relocation rules, as [`relocate`](crate::relocate) returns them.
+    ///
+    /// [`LinkFault::Rule`] comes with the first of rules 12 to 16 of the link that is broken, at its first entry,
+    /// [`LinkFault::OutOfMemory`] if an allocation fails.
     pub fn relocated<'m>(
         &'m self,
         alloc: Global,

@@ -56,8 +56,8 @@ fn main(rt: HostRuntime) -> io::Result<ExitCode> {
     Ok(ExitCode::from(0))
 }
 
-/// From the bytes of two files to those of the executable, which go to a writer. Returns the byte that the executable, read as a file, has at
-/// an address.
+/// From the bytes of two files to those of the executable, which go to a writer. Returns the byte that the executable, read as a file, has
+/// at an address.
 fn link_two<W: io::Write>(
     alloc: Global,
     options: &Options<'_>,
@@ -66,8 +66,8 @@ fn link_two<W: io::Write>(
     address: u64,
     to: &mut W,
 ) -> Result<Option<u8>, &'static str>
-    // The files are objects, and what was written is the executable of their link by these options: an image that loads its memory, with the
-    // value of the entry symbol as `e_entry`. What is returned is the byte of this memory.
+    // The files are objects, and what was written is the executable of their link by these options: an image that loads its memory, with
+    // the value of the entry symbol as `e_entry`. What is returned is the byte of this memory.
     ensures { IfOk result (λ found. (objects : List ObjectValue) × AreObjectFiles (first.now ∷ second.now ∷ []) objects ×
         ((executable : List ℕ) × LoadsLinkOf options.now objects RULES executable ×
         Appends (W.contents to.old) (W.contents to.new) executable ×

@@ -33,6 +33,7 @@ WITHOUT_WRONG_BODY = (
     "elf_tool::Opener::reader",
     "elf_tool::Opener::source",
     "elf_link::Linked::map",
+    "elf_link::Mapped::map",
 )
 # Programs whose modules a test of `tools/test` calls. Modules of the other crates `tests_*` have
 # tests, all of which `rt ci` runs.

@@ -126,7 +126,8 @@ def pages_of(shop: Workshop, objects: list[str], base: str, page: str) -> dict[i
         words = line.split()
         if words[0] not in ("output", "common"):
             continue
-        start, length = int(words[1], 16), int(words[2], 16)
+        start = int(words[1], 16)
+        length = int(words[2], 16)
         flags = int(words[4], 16) if words[0] == "output" else SHF_WRITE
         letters = f"r{'w' if flags & SHF_WRITE else '-'}{'x' if flags & SHF_EXECINSTR else '-'}p"
         for number in range(start // KERNEL_PAGE, -(-(start + length) // KERNEL_PAGE)):
