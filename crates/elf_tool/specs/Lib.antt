@@ -9,10 +9,13 @@ pub use Rattle.elf_tool_laws.specs.Agree
 pub use Rattle.elf_tool_laws.specs.Alike
 pub use Rattle.elf_tool_laws.specs.LeftOut
 pub use Rattle.elf_tool_laws.specs.Order
+pub use Rattle.elf_tool_link.specs.Definitions
 pub use Rattle.elf_tool_link.specs.Inputs
 pub use Rattle.elf_tool_link.specs.Link
 pub use Rattle.elf_tool_link.specs.Map
 pub use Rattle.elf_tool_link.specs.ObjectFiles
+pub use Rattle.elf_tool_link.specs.Places
+pub use Rattle.elf_tool_link.specs.Verdicts
 pub use Rattle.elf_tool_program.specs.Program
 pub use Rattle.elf_tool_rewrite.specs.Rewrite
 pub use Rattle.elf_tool_rule_file.specs.RuleFile
