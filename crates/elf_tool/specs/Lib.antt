@@ -15,6 +15,7 @@ pub use Rattle.elf_tool_link.specs.Inputs
 pub use Rattle.elf_tool_link.specs.Link
 pub use Rattle.elf_tool_link.specs.Map
 pub use Rattle.elf_tool_link.specs.ObjectFiles
+pub use Rattle.elf_tool_link.specs.Places
 pub use Rattle.elf_tool_link.specs.Verdicts
 pub use Rattle.elf_tool_program.specs.Program
 pub use Rattle.elf_tool_rewrite.specs.Rewrite

@@ -19,7 +19,8 @@ ghost use Rattle.elf_tool_rule_file.specs.RuleFile.{AreRules, IsBadLine};
 ghost use Rattle.elf_tool_show.specs.Show.{ShowSays};
 
 pub use elf_tool_laws::{
-    alike_files, checked_files, left_out_symbols, one_verdict, other_order, rewritten_files,
+    alike_files, checked_files, left_out_symbols, one_verdict, other_order, places_found,
+    rewritten_files,
 };
 
 /// `check` has at most one verdict and one text for the bytes of a file, and cannot be without one.

@@ -2,7 +2,10 @@
 mod Agree
 mod Alike
 mod Checked
+mod Found
+mod FoundRules
 mod Insert
+mod Kept
 mod LeftOut
 mod LeftOutExec
 mod LeftOutFiles

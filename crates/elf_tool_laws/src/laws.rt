@@ -10,6 +10,7 @@ ghost use Rattle.elf_link_map.specs.LinkMap.{FirstOfLink, IsLinkMap, LinkMapValu
 ghost use Rattle.elf_link_names.specs.Binds.{Binds, IsUnbound, input_rules};
 ghost use Rattle.elf_link_names.specs.declared.name_rules.Choice.TheVariants.{Zero};
 ghost use Rattle.elf_link_names.specs.declared.name_rules.Choice.{Choice};
+ghost use Rattle.elf_link_relocate.specs.Fields.{applied_entry_rules};
 ghost use Rattle.elf_object_type.specs.Object.{ObjectValue, SymbolValue};
 ghost use Rattle.elf_tool_check.specs.Check.{CheckSays};
 ghost use Rattle.elf_tool_check.specs.declared.calls.Refusal.TheVariants.{File};
@@ -24,7 +25,9 @@ ghost use Rattle.elf_tool_link.specs.Definitions.{IsFirstDefinition};
 ghost use Rattle.elf_tool_link.specs.Link.{FilesLink};
 ghost use Rattle.elf_tool_link.specs.Map.{MapSays};
 ghost use Rattle.elf_tool_link.specs.ObjectFiles.{AreObjectFiles, IsFirstRefused};
+ghost use Rattle.elf_tool_link.specs.Places.{IsRecordAt, subject_of};
 ghost use Rattle.elf_tool_link.specs.Verdicts.{IsLinkVerdict};
+ghost use Rattle.elf_tool_link.specs.declared.places.RecordPlace.{RecordPlace};
 ghost use Rattle.elf_tool_rewrite.specs.Rewrite.{RewriteSays};
 ghost use Rattle.elf_tool_show.specs.Show.{ShowSays};
 
@@ -56,12 +59,24 @@ pub fn one_verdict()
         MapSays opt (Some rules) files v s → FilesLink opt rules files w t → v ≡ but_length w }
 {}
 
+/// If a rule of the link refuses files, and the rule is about a section, a symbol or a relocation, the record of it is found in its file.
+/// The rules are 3 to 9 and 12 to 16: the others are about no record. So a refusal that has a place in a file has one in what `rewrite`
+/// writes for the file, maybe at another index and offset.
+pub fn places_found()
+    ensures link { (opt : Options) (files : List (List ℕ)) (fs : List ObjectValue) (x : ℕ × Site) (found : Option RecordPlace) →
+        AreObjectFiles files fs → FirstOfLink opt fs (Some x) → subject_of x.0 ≢ None → IsRecordAt files (subject_of x.0) x.1 found →
+        found ≢ None }
+    ensures relocation { (rules : List RelocRule) (files : List (List ℕ)) (fs : List ObjectValue) (m : LinkMapValue) (x : ℕ × Site)
+        (found : Option RecordPlace) → AreObjectFiles files fs → FirstAt (applied_entry_rules fs m rules) (Some x) →
+        IsRecordAt files (subject_of x.0) x.1 found → found ≢ None }
+{}
+
 /// Files that are alike have the same link: at each position the two files have the same bytes, or they denote one object.
 ///
 /// They are the same objects, or the same file is refused first, with the same rule and offset. For the same options and relocation rules
 /// `map` writes the same text and `link` the same executable. If the link is refused, it is by the same rule of the link, in the same file,
 /// at the same positions in its object. A name has the same first definition. What may differ is where these positions are in the bytes of
-/// a file.
+/// a file ([`places_found`]).
 pub fn alike_files()
     ensures objects { (files others : List (List ℕ)) (fs : List ObjectValue) → AreAlikeFiles files others →
         AreObjectFiles files fs ↔ AreObjectFiles others fs }
