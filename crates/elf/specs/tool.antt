@@ -16,6 +16,7 @@ pub use Rattle.elf_tool.specs.Link
 pub use Rattle.elf_tool.specs.Map
 pub use Rattle.elf_tool.specs.ObjectFiles
 pub use Rattle.elf_tool.specs.Order
+pub use Rattle.elf_tool.specs.Places
 pub use Rattle.elf_tool.specs.Program
 pub use Rattle.elf_tool.specs.Rewrite
 pub use Rattle.elf_tool.specs.RuleFile

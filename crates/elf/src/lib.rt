@@ -11,10 +11,11 @@
 //! | [`exec`] | the executable of a link |
 //! | [`tool`] | the program `elfmap`, over any readers and writers |
 //!
-//! Six programs show what people do with it, in 50 to 150 lines, each in a crate of its name:
+//! Seven programs show what people do with it, in 40 to 150 lines, each in a crate of its name:
 //!
 //! | program | what it shows |
 //! |---|---|
+//! | `example_report FILE` | reading a file, and asking its image for the entry, with a contract on that; the template of an application |
 //! | `example_symbols FILE` | reading a file, validating it, and listing the symbols of its tables |
 //! | `example_make` | making an object from nothing, reading it back from its file, and writing its canonical layout |
 //! | `example_edit FILE` | writing a file's image, also with edits; with `--seek` by a source of its own, without its contents in memory |
@@ -28,6 +29,9 @@
 //! assert_eq!(rt; verdict(&bytes), None);
 //! let image = parse(alloc, &bytes)?;
 //! ```
+//!
+//! A clause of a crate that stands on this one names the definitions of each module below `Rattle.elf.specs`, as
+//! `Rattle.elf.specs.image.Rules.{IsFault}`, and its structs and enums in `Types` there.
 //!
 //! A source, a row of extents and what opens files can be of one's own: the ghost members of the trait say what the value represents, and
 //! the check asks of the methods what the trait promises of it. A source that counts the reads of another one, as the crate `example_edit`

@@ -1,6 +1,4 @@
 //! `example_report FILE`: prints at which address an ELF-64 file begins to run, or the rule that the file breaks.
-//!
-//! This is the application of `examples/application`, with which an application of one's own begins.
 #![tactic(auto)]
 
 ghost use Rattle.std.specs.Prelude.{◌≡◌, IfErr, IfOk};

@@ -3,6 +3,7 @@ ghost use Rattle.std.specs.Prelude.{◌<◌, length, ◌≡◌, ℕ, List, Some}
 
 use crate::said::{Said, of_fault, say};
 use elf_image_outline::{CopyFault, copy_image, scan};
+use elf_image_sources::{JoinFault, Joined};
 use elf_image_stream::{Bytes, Fault, Source, WriteFault};
 use elf_image_type::{Image, parse, verdict, write};
 use elf_object_edit::{WithoutFault, without};
@@ -21,10 +22,19 @@ use std::io::Write;
 
 /// The calls on a file of these bytes.
 pub fn calls<W: Write>(alloc: Global, bytes: &[u8], out: &mut W) {
+    say(out, "Joined::new", joined(alloc, bytes));
     say(out, "scan", scanned(alloc, bytes));
     match parse(alloc, bytes) {
         Ok(image) => on_image(alloc, &image, out),
         Err(fault) => say(out, "parse", of_fault(fault)),
+    }
+}
+
+fn joined(alloc: Global, bytes: &[u8]) -> Said {
+    match Joined::new(alloc, &[bytes, bytes]) {
+        Ok(_) => Said::Done(0),
+        Err(JoinFault::OutOfMemory) => Said::Memory,
+        Err(JoinFault::TooLong) => Said::Refused,
     }
 }
 
