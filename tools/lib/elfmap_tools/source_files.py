@@ -9,6 +9,8 @@ from .release_files import archived, copied, put, version_of, without_dead_links
 from .tree import LIBRARIES_OF, TOP, below, files_below, read_bytes, read_text, texts_of
 
 TEMPLATE = "examples/application"
+# The template's crates.txt has another name here, where `rt ci` takes no second one.
+LINES = "crates.template"
 # The crate of this repository that is the template's, and its name there.
 EXAMPLE = "example_report"
 OWN = "report"
@@ -38,7 +40,8 @@ def put_crates(folder: str) -> None:
 def put_template(folder: str) -> None:
     """Puts the template of an application into a folder: its files, and its crate."""
     for path in files_below(f"{TOP}/{TEMPLATE}"):
-        copied(path, f"{folder}/{path[len(f'{TOP}/{TEMPLATE}/'):]}")
+        name = path[len(f"{TOP}/{TEMPLATE}/") :]
+        copied(path, f"{folder}/{'crates.txt' if name == LINES else name}")
     copied(f"{TOP}/HANDLES", f"{folder}/HANDLES")
     copied(f"{TOP}/{GUIDE}", f"{folder}/elfmap-{os.path.basename(GUIDE)}")
     example = f"{TOP}/crates/{EXAMPLE}"
