@@ -1,4 +1,4 @@
--- An object without none of its sections is the object. Each mark says that what it is for stays, so a new position is the old one, by
+-- An object of which no section is left out is itself. Each mark says that what it is for stays, so a new position is the old one, by
 -- induction. Each reference of an object is to a section or a symbol that is there, so it keeps its position.
 use Rattle.std.proofs.Common.{◌≡◌, ℕ, ◌<◌, ◌+◌, ◌++◌, Bool, true, false, refl, zero, suc, List, [], ◌∷◌, get_or, length, Option, None, Some}
 use Rattle.std.proofs.Common.{map, sym, ap, subst, ◌∙◌, arith, zero-add}

@@ -1,13 +1,16 @@
 //! `example_strip`: reads an object from standard input, and writes it without its debug data to standard output: without the sections
-//! whose names begin with `.debug`, and without their relocations.
+//! whose names begin with `.debug`, their relocations, and groups of nothing else.
 #![tactic(auto)]
 
 ghost use Rattle.std.specs.Prelude.{◌≡◌, ℕ, IfOk, List, OnOk, map};
+ghost use Rattle.std.specs.List.{list_all};
 ghost use Rattle.std.specs.Io.KnownBytes.{Appends, Consumes};
 ghost use Rattle.elf_object.specs.ObjectView.{body_value, section_value};
 ghost use Rattle.elf_object.specs.Without.{object_without};
 ghost use Rattle.example_strip.specs.Debug.{IsStripped, debug_sections as debug_sections_of, has_debug_name as has_debug_name_of};
-ghost use Rattle.example_strip.specs.Debug.{is_debug as is_debug_of, relocates_debug as relocates_debug_of};
+ghost use Rattle.example_strip.specs.Debug.{groups_debug as groups_debug_of, is_debug as is_debug_of, is_debug_data as is_debug_data_of};
+ghost use Rattle.example_strip.specs.Debug.{relocates_debug as relocates_debug_of};
+ghost use Rattle.elf_object.specs.Object.{section_at};
 
 use elf_image::{parse, read_to_end};
 use elf_object::{Body, Object, Section, object_of, without, write_object};
@@ -77,9 +80,16 @@ fn debug_marks(
         .collect(alloc)
 }
 
-/// Whether a section has the name of debug data, or relocates a section that has.
+/// Whether a section is debug data, or a group of nothing else.
 fn is_debug(object: &Object<'_>, section: &Section<'_>) -> bool
     ensures { result ≡ is_debug_of object.now (section_value section.now) }
+{
+    is_debug_data(object, section) || groups_debug(object, &section.body)
+}
+
+/// Whether a section has the name of debug data, or relocates a section that has.
+fn is_debug_data(object: &Object<'_>, section: &Section<'_>) -> bool
+    ensures { result ≡ is_debug_data_of object.now (section_value section.now) }
 {
     has_debug_name(section) || relocates_debug(object, &section.body)
 }
@@ -98,6 +108,31 @@ fn relocates_debug(object: &Object<'_>, body: &Body<'_>) -> bool
     };
     match object.sections().get(*target) {
         Some(section) => has_debug_name(section),
+        None => false,
+    }
+}
+
+fn groups_debug(object: &Object<'_>, body: &Body<'_>) -> bool
+    ensures { result ≡ groups_debug_of object.now (body_value body.now) }
+{
+    let Body::Group { members, .. } = body else {
+        return false;
+    };
+    are_debug(object, members)
+}
+
+/// Whether each of these sections is debug data.
+fn are_debug(object: &Object<'_>, members: &[usize]) -> bool
+    ensures { result ≡ list_all (λ member. is_debug_data_of object.now (section_at object.now member)) members.now }
+{
+    members.iter().all(|member| is_debug_at(object, *member))
+}
+
+fn is_debug_at(object: &Object<'_>, position: usize) -> bool
+    ensures { result ≡ is_debug_data_of object.now (section_at object.now position) }
+{
+    match object.sections().get(position) {
+        Some(section) => is_debug_data(object, section),
         None => false,
     }
 }
