@@ -73,6 +73,8 @@ def try_taking(tally: Tally, archive: str, release: str, application: str) -> No
     tally.same("crates.txt after it", read_text(f"{application}/crates.txt"), lines)
     compare_crates(tally, application)
     tally.check("RELEASE is" in taken(application), "take-elfmap without a word has no usage")
+    for it in (f"{TOP}/docs", f"{TOP}/VERSION", f"{TOP}/nothing"):
+        tally.check("is no release" in taken(application, it), f"{it} is a release of sources")
     write(f"{application}/crates.txt", "elf_field:\n")
     tally.check("has the name" in taken(application, release), "elf_field is two crates")
     write(f"{application}/crates.txt", "report:\n")
