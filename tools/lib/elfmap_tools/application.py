@@ -10,6 +10,7 @@ import shutil
 
 from . import source_files
 from .building import FolderOf, built_below, kit, link_words, words
+from .release_files import broken_links
 from .source_files import EXAMPLE, OWN
 from .suite import Tally, Test
 from .tree import (
@@ -40,6 +41,14 @@ def unpacked(tally: Tally) -> tuple[str, str]:
     ended = said("tar", "xf", first, folder=empty)
     tally.check(ended.returncode == 0, f"tar does not unpack the archive: {ended.stdout}")
     return first, f"{empty}/elfmap-sources-{VERSION}"
+
+
+def try_pages(tally: Tally, folder: str) -> None:
+    """The links of the pages lead to files of the folder."""
+    for page in files_below(folder):
+        if page.endswith(".md"):
+            links = list(broken_links(page, read_text(page)))
+            tally.check(not links, f"{page} has links that lead nowhere: {links}")
 
 
 def taken(application: str, *release: str) -> str:
@@ -73,6 +82,8 @@ def try_taking(tally: Tally, archive: str, release: str, application: str) -> No
     tally.same("crates.txt after it", read_text(f"{application}/crates.txt"), lines)
     compare_crates(tally, application)
     tally.check("RELEASE is" in taken(application), "take-elfmap without a word has no usage")
+    for it in (f"{TOP}/docs", f"{TOP}/VERSION", f"{TOP}/nothing"):
+        tally.check("is no release" in taken(application, it), f"{it} is a release of sources")
     write(f"{application}/crates.txt", "elf_field:\n")
     tally.check("has the name" in taken(application, release), "elf_field is two crates")
     write(f"{application}/crates.txt", "report:\n")
@@ -99,6 +110,8 @@ def try_application(tally: Tally, options: Options) -> None:
     archive, release = unpacked(tally)
     application = f"{tally.folder}/application"
     shutil.copytree(f"{release}/application", application)
+    try_pages(tally, release)
+    try_pages(tally, application)
     try_taking(tally, archive, release, application)
     folder_of, lacking = built_below([EXAMPLE])
     tally.check(not lacking, f"libraries are not built: {lacking}")

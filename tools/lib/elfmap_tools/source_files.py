@@ -16,10 +16,10 @@ EXAMPLE = "example_report"
 OWN = "report"
 GUIDE = "docs/APPLICATIONS.md"
 PAGES = [GUIDE, "docs/generated/IMPORTS.md", "docs/generated/DEFINITIONS.md", "CHANGELOG.md"]
-README = f"""# The sources of elfmap's library
+README = f"""The sources of elfmap's library.
 
-`crates/` has its crates, and `application/` a template of an application on them. [A crate of your
-own]({GUIDE}) says how to begin.
+crates/ has its crates, and application/ a template of an application on them. {GUIDE}
+says how to begin.
 """
 
 
@@ -50,12 +50,14 @@ def put_template(folder: str) -> None:
         if place.split("/")[0] != "out":
             content = read_bytes(path).replace(EXAMPLE.encode(), OWN.encode())
             put(f"{folder}/crates/{OWN}/{place}", content)
+    # It is taken elsewhere.
+    without_dead_links(folder)
 
 
 def put_sources(folder: str, version: str) -> None:
     """Puts the release of sources into a folder."""
     put(f"{folder}/VERSION", f"{version}\n")
-    put(f"{folder}/README.md", README)
+    put(f"{folder}/README", README)
     put_crates(folder)
     put_template(f"{folder}/application")
     for it in PAGES:
