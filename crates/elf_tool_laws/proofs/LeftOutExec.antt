@@ -1,6 +1,6 @@
 -- The same rule of relocations is broken first, at the same site, and the executable has the same bytes: it is made of memory, and of what
 -- the link map has beside names.
-use Rattle.std.proofs.Common.{◌≡◌, ◌∙◌, ◌+◌, ◌*◌, ℕ, List, [], ◌∷◌, ap, arith, get_or, inl, inr, length, refl, subst, sym}
+use Rattle.std.proofs.Common.{◌≡◌, ◌∙◌, ◌<◌, ◌+◌, ◌*◌, ℕ, List, [], ◌∷◌, ap, arith, get_or, inl, inr, length, refl, subst, sym}
 use Rattle.std.proofs.lemmas.Bool.{cases_lt}
 use Rattle.std.proofs.lemmas.List.{get_or_past}
 use Rattle.std.specs.List.{flat_map}
@@ -9,16 +9,19 @@ use Rattle.elf_exec.specs.ExecWriting.{IsTooLongFor}
 use Rattle.elf_exec.specs.Executable.{AreLoadBytes, ExecFits, ExecLaid, LoadsLink, bytes_from, exec_bytes, exec_header, header_bytes}
 use Rattle.elf_exec.specs.Executable.{load_parts}
 use Rattle.elf_exec.specs.Executable.{program_headers, table_bytes}
+use Rattle.elf_exec.specs.Pages.{IsAskedFor, IsInSection, LoadsPages}
 use Rattle.elf_extent.specs.Extent.{Never}
 use Rattle.elf_extent.specs.Place.{Least}
 use Rattle.elf_field.specs.Abi.{EHDR_SIZE, PHDR_SIZE}
 use Rattle.elf_field.specs.Headers.{ehdr_bytes, phdr_bytes}
 use Rattle.elf_field.specs.declared.number.Order.{Order}
+use Rattle.elf_field.specs.declared.phdr.Phdr.{Phdr}
 use Rattle.elf_image_rules.specs.Rows.{Row, Ruled}
+use Rattle.elf_image_rules.specs.Tables.{program_header_of}
 use Rattle.elf_image_type.specs.WrittenFile.{spread}
 use Rattle.elf_link_field.specs.Field.{HasNoRelocationRule}
 use Rattle.elf_link_field.specs.declared.rule.RelocRule.{RelocRule}
-use Rattle.elf_link_files.specs.Files.{no_object, object_at}
+use Rattle.elf_link_files.specs.Files.{no_object, object_at, section_in}
 use Rattle.elf_link_files.specs.Rows.{AreEach, FirstAt, IsFirstAt}
 use Rattle.elf_link_files.specs.declared.fault.Options.{Options}
 use Rattle.elf_link_files.specs.declared.site.Site.{Site}
@@ -28,11 +31,13 @@ use Rattle.elf_link_relocate.specs.Fields.{HasOffset, IsWithin}
 use Rattle.elf_link_relocate.specs.Fields.{applied_entry_rules, fields_overlap, no_rule, unplaced}
 use Rattle.elf_link_relocate.specs.Fields.{field_out_of_range, value_out_of_range}
 use Rattle.elf_link_relocate.specs.Linked.{IsMemory, identity_of}
-use Rattle.elf_link_relocate.specs.Loads.{load_in, loads, no_load}
+use Rattle.elf_link_outputs.specs.Outputs.{memory_size}
+use Rattle.elf_link_relocate.specs.Loads.{load_in, loads, no_load, segment_flags}
 use Rattle.elf_link_relocate.specs.declared.linked.Identity.{Identity}
 use Rattle.elf_link_relocate.specs.declared.load.Load.{Load}
 use Rattle.elf_object_type.specs.Object.{ObjectValue}
 use Rattle.elf_tool_laws.proofs.LeftOutNumbers.{value_same}
+use Rattle.elf_tool_laws.proofs.LeftOutPlans.{body_before, flags_before, memory_by}
 use Rattle.elf_tool_laws.proofs.LeftOutMemory.{applied_here, applied_there, content_is, field_here, field_there, kind_before, memory_here}
 use Rattle.elf_tool_laws.proofs.LeftOutMemory.{memory_there, number_is, start_before, target_is}
 use Rattle.elf_tool_laws.specs.LeftOut.{AreLessSymbols, with_bindings}
@@ -271,6 +276,34 @@ module _ (fs gs : List ObjectValue) (at : ℕ → ℕ → ℕ) (r : AreLessSymbo
   found_here x None none = λ w there. none w (memory_there fs gs at r opt m bs is also rules x w there)
   found_here x (Some w) there = memory_here fs gs at r opt m bs is also rules x w there
 
+  -- ---- its pages
+
+  in_section_there : (f s x : ℕ) → IsInSection fs n f s x → IsInSection gs m f s x
+  in_section_there f s x (a, begins, from, to) =
+      let size = body_before fs gs at r memory_size memory_by f s in
+      (a, begins, from, omega arith)
+
+  flags_here : (f s : ℕ) → segment_flags (section_in gs f s).flags ≡ segment_flags (section_in fs f s).flags
+  flags_here f s = ap segment_flags (flags_before fs gs at r f s)
+
+  asked_here : (segment : Phdr) → IsAskedFor gs m segment → IsAskedFor fs n segment
+  asked_here segment (inl (f, s, begins, flags)) = inl (f, s, begins, flags ∙ flags_here f s)
+  asked_here segment (inr commons) = inr commons
+
+  pages_here : (size : ℕ) (b : List ℕ) → LoadsPages size gs m rules b → LoadsPages size fs n rules b
+  pages_here size b pages = record {
+    own = pages.own;
+    memory = λ v stands x w. (
+      (λ given. memory_here fs gs at r opt m bs is also rules x w ((pages.memory v stands x w).0 given)),
+      (λ there. (pages.memory v stands x w).1 (memory_there fs gs at r opt m bs is also rules x w there)),
+    );
+    asked = λ v stands j lt. (
+        let (each, some) = pages.asked v stands j lt in (
+          (λ f s x inside has. each f s x (in_section_there f s x inside) has ∙ flags_here f s),
+          asked_here (program_header_of v.segments j) some,
+        ));
+  }
+
   pub loads_here : (b : List ℕ) → LoadsLink gs m rules b → LoadsLink fs n rules b
   loads_here b link = record {
     accepted = link.accepted;
@@ -281,6 +314,7 @@ module _ (fs gs : List ObjectValue) (at : ℕ → ℕ → ℕ) (r : AreLessSymbo
       (λ there. (link.memory v stands x w).1 (memory_there fs gs at r opt m bs is also rules x w there)),
     );
     load = λ v stands x found first. found_here x found (link.load v stands x found first);
+    pages = λ size some divides. pages_here size b (link.pages size some divides);
     one = λ c laid. link.one c (laid_there c laid);
   }
 
