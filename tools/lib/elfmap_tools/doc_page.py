@@ -1,8 +1,8 @@
 """`tools/dev doc`: one page of the whole library, for a browser. For each of the crates that `elf`
 shows it has the front doc and each public item: signature, doc comment, and contract as it is in
 the source, where each word that is a definition of specs/ leads to that definition, at the end of
-the page with its comment and text. It fails where an item has no doc comment or is not in the page
-once."""
+the page with its comment and text, below the path that a clause imports it from. It fails where an
+item has no doc comment or is not in the page once."""
 
 import functools
 import re
@@ -13,6 +13,7 @@ from html import escape
 
 from .definitions_page import DEFINITIONS, ROW
 from .guarantees_page import guarantees_by_call, key_of
+from .import_paths import modules
 from .rules_page import by_anchor
 from .sources import (
     PUBLIC_CRATES,
@@ -71,7 +72,7 @@ class Page:
 
         environment = jinja2.Environment(trim_blocks=True, lstrip_blocks=True)
         template = environment.from_string(read_text("page/doc.html"))
-        called = (anchor_of, head_of_contract, in_one_line, name_of, said_of, text_of)
+        called = (anchor_of, head_of_contract, import_of, in_one_line, name_of, said_of, text_of)
         own = {it.__name__: it for it in called}
         files = {"style": read_text("page/doc.css"), "script": read_text("page/doc.js")}
         return str(template.render(page=self, **files, **own))
@@ -81,6 +82,23 @@ def anchor_of(found: Definition) -> str:
     """The anchor of a definition."""
     crate, _, rest = found.path.removeprefix("crates/").removesuffix(".antt").partition("/specs/")
     return f"{crate}/{rest.replace('/', '.')}.{found.name}"
+
+
+def import_of(path: str) -> str:
+    """Where a clause imports the definitions of a file from, over the crate `elf`; nothing where no
+    public crate shows the file."""
+    crate, _, rest = path.removeprefix("crates/").removesuffix(".antt").partition("/specs/")
+    return import_paths().get(f"{crate}.specs.{rest.replace('/', '.')}", "")
+
+
+@functools.cache
+def import_paths() -> dict[str, str]:
+    """The path over the crate `elf` of each file of definitions, by its path at home."""
+    found: dict[str, str] = {}
+    for public in PUBLIC_CRATES:
+        for name, home in modules(public).items():
+            found.setdefault(home, f"Rattle.elf.specs.{public}.{name}")
+    return found
 
 
 def name_of(text: str) -> str:
