@@ -7,6 +7,7 @@ use Rattle.std.proofs.Math.ListN.{get_or-map}
 use Rattle.std.proofs.lemmas.Bool.{cases_lt}
 use Rattle.std.proofs.lemmas.List.{get_or-map as get_or-map-in, get_or_past, length-map}
 use Rattle.std.proofs.lemmas.List.Concat.{flat_map-cons}
+use Rattle.std.proofs.lemmas.Simd.{map-map}
 use Rattle.std.specs.List.{flat_map}
 use Rattle.elf_extent.specs.Extent.{Never}
 use Rattle.elf_field.specs.Abi.{SHF_ALLOC}
@@ -37,10 +38,6 @@ pub flat_map_same : {A B : Type 0} (f g : A → List B) → ((x : A) → f x ≡
 flat_map_same f g same [] = refl
 flat_map_same f g same (x ∷ xs) =
     flat_map-cons f x xs ∙ ap₂ ◌++◌ (same x) (flat_map_same f g same xs) ∙ sym (flat_map-cons g x xs)
-
-map_map : {A B C : Type 0} (f : B → C) (g : A → B) (xs : List A) → map f (map g xs) ≡ map (λ x. f (g x)) xs
-map_map f g [] = refl
-map_map f g (x ∷ xs) = ap (λ (ys : List _). f (g x) ∷ ys) (map_map f g xs)
 
 lists_as : (R S : Row Site) → ((p : Site) → R p → S p) → ((p : Site) → S p → R p) → (ps : List Site) → Lists R ps → Lists S ps
 lists_as R S to from ps are =
@@ -312,4 +309,4 @@ module _ (fs gs : List ObjectValue) (at : ℕ → ℕ → ℕ) (r : AreLessSymbo
       ap₂ ◌++◌
       (flat_map_same (output_parts gs page) (output_parts fs page)
       (λ ms. ap (raised page) (map_same (part_of gs) (part_of fs) part_before ms)) plan.outputs)
-      (ap (raised page) (sym (map_map common_part (chosen_before at) plan.commons)))
+      (ap (raised page) (sym (map-map common_part (chosen_before at) plan.commons)))

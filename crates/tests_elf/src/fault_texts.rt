@@ -5,7 +5,7 @@ use elf::image::{CopyFault, Failed, Fault, NoSection, ReplaceFault, WriteFault};
 use elf::link::LinkFault;
 use elf::object::{LayoutFault, ObjectFault, ObjectWriteFault, Reference, WithoutFault};
 use elf::table::HashFault;
-use elf::tool::{OpenFault, WordsFault};
+use elf::tool::{FileFault, OpenFault, Refusal, Unlinked, WordsFault};
 use std::error::Error;
 use std::fmt::InlineText;
 use std::process::Abort;
@@ -102,6 +102,25 @@ fn references_to_what_is_left_out(rt: HostRuntime) {
     assert_reference(&rt, Reference::Signature, signature);
     let member = "section 3 refers to what is left out, by its member 2";
     assert_reference(&rt, Reference::Member(2), member);
+}
+
+#[test]
+fn files_that_are_not_linked(rt: HostRuntime) {
+    let refused = FileFault::Refused {
+        file: 1,
+        rule: 33,
+        at: 114,
+    };
+    assert_text(&rt, refused, "file 1 breaks rule 33 at 114");
+    let link = Refusal::Link {
+        rule: 9,
+        file: 0,
+        index: 1,
+        entry: 0,
+    };
+    assert_text(&rt, Unlinked::Refused(link), "refused 9 0 1 0");
+    assert_text(&rt, FileFault::OutOfMemory, "out of memory");
+    assert_text(&rt, Unlinked::OutOfMemory, "out of memory");
 }
 
 #[test]

@@ -4,13 +4,11 @@ elf-conformance-VERSION.tar.xz, which needs Python alone. The same sources make 
 large files again, for which the reference implementation takes minutes."""
 
 import json
-import os
-import tempfile
 
 from . import conformance_index as made
 from .conformance_index import FOLDER, Entry
-from .release_files import PLAIN_MODE, copied, epoch, put, without_dead_links
-from .tree import TOP, Options, files_below, read_text, side_by_side, wanted, write
+from .release_files import copied, packed, put, without_dead_links
+from .tree import TOP, Options, files_below, read_text, side_by_side, write
 
 # What of the folder is not in the archive: what the index is made of, and what may be built there.
 NOT_PACKED = {"large.json", "numbers.txt", "reported.txt", "__pycache__", "target", "Cargo.lock"}
@@ -43,18 +41,8 @@ def put_suite(folder: str, own: list[Entry]) -> None:
     answers = made.generated_answers()
     put(f"{folder}/{made.ANSWERS}", answers)
     whole = made.index(version(), own, answers)
-    packed = json.dumps(whole, indent=0, separators=(",", ":"))
-    put(f"{folder}/index.json", f"{packed}\n")
-
-
-def archived(folder: str, path: str) -> str:
-    """Packs a folder as an archive, which is the same for the same files: its path."""
-    parent, name = os.path.split(folder)
-    owner = ["--sort=name", "--owner=0", "--group=0", "--numeric-owner"]
-    plain = [f"--mode={PLAIN_MODE}", f"--mtime=@{epoch()}"]
-    words = ["--format=gnu", *owner, *plain, "-I", "xz -9e -T1", "-cf", os.path.abspath(path)]
-    wanted("tar", "-C", parent, *words, name)
-    return path
+    text = json.dumps(whole, indent=0, separators=(",", ":"))
+    put(f"{folder}/index.json", f"{text}\n")
 
 
 def pack(folder: str) -> str:
@@ -63,11 +51,8 @@ def pack(folder: str) -> str:
     wrong = list(made.changed(own))
     if wrong:
         raise SystemExit("release: " + "\n".join(wrong))
-    name = f"elf-conformance-{version()}"
-    os.makedirs(folder, exist_ok=True)
-    with tempfile.TemporaryDirectory(prefix="elf-conformance-") as work:
-        put_suite(f"{work}/{name}", own)
-        return archived(f"{work}/{name}", f"{folder}/{name}.tar.xz")
+    archive = f"elf-conformance-{version()}.tar.xz"
+    return packed(folder, archive, lambda it: put_suite(it, own))
 
 
 def give_numbers(options: Options) -> int:

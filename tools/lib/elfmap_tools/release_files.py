@@ -13,7 +13,7 @@ import re
 import shutil
 import sys
 import tempfile
-from collections.abc import Iterator
+from collections.abc import Callable, Iterator
 from functools import partial
 
 from . import doc_page, library, man, web_page
@@ -220,21 +220,34 @@ def put_release(folder: str, version: str) -> None:
     without_dead_links(folder)
 
 
+# How an archive of an ending is compressed.
+COMPRESSORS = {"gz": "gzip -9n", "xz": "xz -9e -T1"}
+
+
 def archived(folder: str, path: str) -> str:
-    """Packs a folder as a compressed archive, which is the same for the same files: its path."""
+    """Packs a folder as an archive, compressed as its ending says, which is the same for the same
+    files: its path."""
     parent, name = os.path.split(folder)
     owner = ["--sort=name", "--owner=0", "--group=0", "--numeric-owner"]
-    plain = [f"--mode={PLAIN_MODE}", f"--mtime=@{epoch()}"]
-    words = ["--format=gnu", *owner, *plain, "-I", "gzip -9n", "-cf", os.path.abspath(path)]
+    plain = [f"--mode={PLAIN_MODE}", f"--mtime=@{epoch()}", "--format=gnu"]
+    compressor = COMPRESSORS[path.rpartition(".")[2]]
+    words = [*owner, *plain, "-I", compressor, "-cf", os.path.abspath(path)]
     wanted("tar", "-C", parent, *words, name)
     return path
+
+
+def packed(folder: str, archive: str, put_all: Callable[[str], None]) -> str:
+    """Packs an archive of this name into a folder, with what is put into a folder: its path."""
+    os.makedirs(folder, exist_ok=True)
+    with tempfile.TemporaryDirectory(prefix="elfmap-release-") as work:
+        whole = f"{work}/{archive.rpartition('.tar.')[0]}"
+        put_all(whole)
+        return archived(whole, f"{folder}/{archive}")
 
 
 def pack(folder: str, given: str | None = None) -> str:
     """Packs a release into a folder: the path of the archive."""
     version = version_of(given)
-    name = f"elfmap-{version}-x86_64-linux"
-    os.makedirs(folder, exist_ok=True)
-    with tempfile.TemporaryDirectory(prefix="elfmap-release-") as work:
-        put_release(f"{work}/{name}", version)
-        return archived(f"{work}/{name}", f"{folder}/{name}.tar.gz")
+    return packed(
+        folder, f"elfmap-{version}-x86_64-linux.tar.gz", lambda it: put_release(it, version)
+    )

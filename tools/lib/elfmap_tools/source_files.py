@@ -3,9 +3,8 @@ crates outside of this repository. It has the crate `elf`, all crates below it, 
 application. The same sources and commit make the same archive."""
 
 import os
-import tempfile
 
-from .release_files import archived, copied, put, version_of, without_dead_links
+from .release_files import copied, packed, put, version_of, without_dead_links
 from .tree import LIBRARIES_OF, TOP, below, files_below, read_bytes, read_text, texts_of
 
 TEMPLATE = "examples/application"
@@ -68,8 +67,4 @@ def put_sources(folder: str, version: str) -> None:
 def pack(folder: str, given: str | None = None) -> str:
     """Packs the sources into a folder: the path of the archive."""
     version = version_of(given)
-    name = f"elfmap-sources-{version}"
-    os.makedirs(folder, exist_ok=True)
-    with tempfile.TemporaryDirectory(prefix="elfmap-sources-") as work:
-        put_sources(f"{work}/{name}", version)
-        return archived(f"{work}/{name}", f"{folder}/{name}.tar.gz")
+    return packed(folder, f"elfmap-sources-{version}.tar.gz", lambda it: put_sources(it, version))
