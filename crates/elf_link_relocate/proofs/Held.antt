@@ -31,7 +31,7 @@ some_bits (no_bits size) lt = absurd (omega arith)
 some_bits (relocs rela target entries) lt = absurd (omega arith)
 some_bits (group comdat signature members) lt = absurd (omega arith)
 
-some_width : (w : Width) → 0 < size_of w
+pub some_width : (w : Width) → 0 < size_of w
 some_width W1 = omega arith
 some_width W2 = omega arith
 some_width W4 = omega arith

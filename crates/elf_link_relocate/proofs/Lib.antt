@@ -7,5 +7,6 @@ mod Spots
 mod Memories
 mod MemoryLaws
 mod Held
+mod Neighbours
 mod LoadSegments
 pub mod Public

@@ -56,15 +56,16 @@ after_on a b c (inr (same, inl target)) (inr (again, inr (section, offset))) = i
 after_on a b c (inr (same, inr (section, offset))) (inr (again, inl other)) = inr (same ∙ again, inl (omega arith))
 after_on a b c (inr (same, inr (section, offset))) (inr (again, inr (there, end))) = inr (same ∙ again, inr (section ∙ there, omega arith))
 
-after_all : (ds : List Field) → AreAscending ds → (j k : ℕ) → j < k → k < length ds → StandsAfter (field_at ds j) (field_at ds k)
-after_all ds are j zero lt within = absurd (omega arith)
-after_all ds are j (suc k) lt within =
+pub after_all : (at : ℕ → Field) (n : ℕ) → ((k : ℕ) → k + 1 < n → StandsAfter (at k) (at (k + 1))) → (j k : ℕ) → j < k → k < n →
+    StandsAfter (at j) (at k)
+after_all at n are j zero lt within = absurd (omega arith)
+after_all at n are j (suc k) lt within =
     let next : k + 1 ≡ suc k = omega arith in
     let last = are k (omega arith) in
-    subst (λ (i : ℕ). StandsAfter (field_at ds j) (field_at ds i)) next
+    subst (λ (i : ℕ). StandsAfter (at j) (at i)) next
     (elim (cases_lt j k) [
-      | inl below ↦ after_on (field_at ds j) (field_at ds k) (field_at ds (k + 1)) (after_all ds are j k below (omega arith)) last
-      | inr above ↦ (let same : k ≡ j = omega arith in subst (λ (i : ℕ). StandsAfter (field_at ds i) (field_at ds (k + 1))) same last)
+      | inl below ↦ after_on (at j) (at k) (at (k + 1)) (after_all at n are j k below (omega arith)) last
+      | inr above ↦ (let same : k ≡ j = omega arith in subst (λ (i : ℕ). StandsAfter (at i) (at (k + 1))) same last)
     ])
 
 after_apart : (fs : List ObjectValue) (d e : Field) → IsInTarget fs d → IsInTarget fs e → StandsAfter d e →
@@ -83,4 +84,5 @@ pub ascending_apart : (fs : List ObjectValue) (m : LinkMapValue) (ds : List Fiel
     HasNoOverlap fs ds
 ascending_apart fs m ds read are k lt (j, below, share) =
     let j_in : j < length ds = omega arith in
-    after_apart fs (field_at ds j) (field_at ds k) (read j j_in).place (read k lt).place (after_all ds are j k below lt) share
+    after_apart fs (field_at ds j) (field_at ds k) (read j j_in).place (read k lt).place
+    (after_all (field_at ds) (length ds) are j k below lt) share

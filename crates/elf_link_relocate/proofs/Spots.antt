@@ -142,16 +142,24 @@ first_decides x y rest not_less = elim (cases_lt x y) [
   | inr above ↦ (above, λ same. subst (λ o. is_lt (ordering_then o rest) ≡ false) (sym (nat_cmp_is x y Equal same)) not_less)
 ]
 
-in_order : (s t : Spot) → is_lt (spot_cmp t s) ≡ false → (s.file ≤ t.file) × (t.file ≡ s.file → s.target ≤ t.target)
+in_order : (s t : Spot) → is_lt (spot_cmp t s) ≡ false →
+    (s.file ≤ t.file) × (t.file ≡ s.file → (s.target ≤ t.target) × (t.target ≡ s.target → s.offset ≤ t.offset))
 in_order s t not_less =
-    let rest = ordering_then (nat_cmp t.offset s.offset) (nat_cmp t.position s.position) in
-    let (file, same) = first_decides t.file s.file (ordering_then (nat_cmp t.target s.target) rest) not_less in
-    (file, λ one. (first_decides t.target s.target rest (same one)).0)
+    let last = nat_cmp t.position s.position in
+    let (file, same) = first_decides t.file s.file (ordering_then (nat_cmp t.target s.target) (ordering_then (nat_cmp t.offset s.offset) last))
+    not_less in (
+      file,
+      λ one. (
+          let (target, again) = first_decides t.target s.target (ordering_then (nat_cmp t.offset s.offset) last) (same one) in
+          (target, λ two. (first_decides t.offset s.offset last (again two)).0)),
+    )
 
 module _ (spots : List Spot) (up : AreSorted spots) where
-  ordered : (a m : ℕ) → a ≤ m → m < length spots →
+  pub ordered : (a m : ℕ) → a ≤ m → m < length spots →
       ((spot_at spots a).file ≤ (spot_at spots m).file) ×
-      ((spot_at spots m).file ≡ (spot_at spots a).file → (spot_at spots a).target ≤ (spot_at spots m).target)
+      ((spot_at spots m).file ≡ (spot_at spots a).file →
+      ((spot_at spots a).target ≤ (spot_at spots m).target) ×
+      ((spot_at spots m).target ≡ (spot_at spots a).target → (spot_at spots a).offset ≤ (spot_at spots m).offset))
   ordered a m le lt =
       in_order (spot_at spots a) (spot_at spots m)
       (sorted_far (λ (x y : Spot). is_lt (spot_cmp x y)) (ranks_by spot_total (λ (x : Spot). x)) spots up a m no_spot le lt)
@@ -165,9 +173,9 @@ module _ (spots : List Spot) (up : AreSorted spots) where
       let one : (spot_at spots m).file ≡ (spot_at spots a).file = omega arith in
       let two : (spot_at spots i).file ≡ (spot_at spots m).file = omega arith in
       let three : (spot_at spots b).file ≡ (spot_at spots i).file = omega arith in
-      let low = t1 one in
-      let mid = t2 two in
-      let high = t3 three in
+      let low = (t1 one).0 in
+      let mid = (t2 two).0 in
+      let high = (t3 three).0 in
       (sym two, omega arith)
 
 -- ---- extents of a run of spots
@@ -245,7 +253,7 @@ has_byte ds n x s is (from, end) = elim (cases_lt s.position n) [
       absurd (omega arith))
 ]
 
-byte_held : (ds : List Field) (n x : ℕ) (s : Spot) → IsSpotIn ds (length ds) s → s.position < n → HasByte (field_at ds s.position) x →
+pub byte_held : (ds : List Field) (n x : ℕ) (s : Spot) → IsSpotIn ds (length ds) s → s.position < n → HasByte (field_at ds s.position) x →
     Has (field_extent ds n s) x
 byte_held ds n x s is lt (from, end) =
     let start = is.offset in (
@@ -254,7 +262,7 @@ byte_held ds n x s is lt (from, end) =
           (omega arith),
     )
 
-sharing_swap : (d e : Field) → AreSharing d e → AreSharing e d
+pub sharing_swap : (d e : Field) → AreSharing d e → AreSharing e d
 sharing_swap d e (file, target, (x, one, two)) = (sym file, sym target, (x, two, one))
 
 module _ (ds : List Field) (n : ℕ) (spots : List Spot) (are : AreSpots ds (length ds) spots) where
@@ -281,7 +289,7 @@ module _ (ds : List Field) (n : ℕ) (spots : List Spot) (are : AreSpots ds (len
       ]
 
   -- where the spot of a field is
-  place : (k : ℕ) → k < length ds → (a : ℕ) × (a < length spots) × (its a ≡ k)
+  pub place : (k : ℕ) → k < length ds → (a : ℕ) × (a < length spots) × (its a ≡ k)
   place k lt =
       let (s, (a, a_in, at), is) = are.all k lt in
       let there : spot_at spots a ≡ s = at_read spots (λ y. y ≡ s) a s a_in (sym at) refl no_spot in

@@ -1,7 +1,7 @@
 //! The relocated bytes of a link.
 ghost use Rattle.std.specs.Prelude.{◌≡◌, ◌<◌, ◌^◌, option_map, IfErr, IfOk, None, OnOk};
 ghost use Rattle.elf_link_map.specs.Standing.{AreObjects, ObjectsFit};
-ghost use Rattle.elf_link_relocate.specs.Linked.{bytes_at, identity_of, IsLinked, IsSoundMap};
+ghost use Rattle.elf_link_relocate.specs.Linked.{bytes_at, identity_of, IsLinked, IsSoundLinked, IsSoundMap};
 ghost use Rattle.elf_link_map.specs.LinkMap.{FirstOfLink, IsLinkFault, IsLinkMap};
 ghost use Rattle.elf_link_relocate.specs.Fields.{IsRelocationFault};
 
@@ -174,7 +174,8 @@ impl<'a> Mapped<'a> {
         &self.link.map
     }
 
-    /// The relocated bytes of the objects by these relocation rules, as [`relocate`](crate::relocate) returns them.
+    /// The relocated bytes of the objects by these relocation rules, as [`relocate`](crate::relocate) returns them. `write_exec` of
+    /// `elf_exec` can write them.
     ///
     /// [`LinkFault::Rule`] comes with the first of rules 12 to 16 of the link that is broken, at its first entry,
     /// [`LinkFault::OutOfMemory`] if an allocation fails.
@@ -185,6 +186,7 @@ impl<'a> Mapped<'a> {
     ) -> Result<Linked<'m, 'a>, LinkFault>
         ensures map { IsSoundMap self.entry.now.objects self.entry.now.map }
         ensures linked { IfOk result (λ linked. IsLinked self.entry.now.objects self.entry.now.map rules.entry.now linked) }
+        ensures ready { IfOk result IsSoundLinked }
         ensures err { IfErr result (IsRelocationFault self.entry.now.objects self.entry.now.map rules.entry.now) }
     {
         relocate_indexed(

@@ -1,5 +1,5 @@
 //! Rule 15: the first field that shares a byte with one before it.
-ghost use Rattle.std.specs.Prelude.{◌≡◌, ◌↔◌, ◌+◌, ◌<◌, ◌≤◌, All, IfOk, IsTrue, MatchOption, length, map as map_list, false, ℕ};
+ghost use Rattle.std.specs.Prelude.{◌≡◌, ◌↔◌, ◌+◌, ◌<◌, ◌≤◌, All, IfOk, IsTrue, MatchOption, length, map as map_list, false, ⊥, ℕ};
 ghost use Rattle.elf_extent.specs.Extent.{Doubly};
 ghost use Rattle.elf_link_relocate.specs.Passes.{AreSorted, AreSpots, HasNoOverlap, HasShared, IsFirstOverlappingField, IsFirstSharer};
 ghost use Rattle.elf_link_relocate.specs.Passes.{IsFollowed, IsLastOfTarget, IsSpotIn, StandsAfter, field_extent};
@@ -145,6 +145,21 @@ fn first_sharer(alloc: Global, fields: &[Field], spots: &[Spot]) -> Result<usize
     Ok(apart)
 }
 
+/// Whether each field is after the one before it in the order of the spots, so that no two share a byte.
+fn are_apart(fields: &[Field], spots: &[Spot]) -> bool
+    requires spots { AreSpots fields.now (length fields.now) spots.now }
+    requires sorted { AreSorted spots.now }
+    ensures apart { IsTrue result → HasShared fields.now (length fields.now) → ⊥ }
+    ensures shared { result ≡ false → HasShared fields.now (length fields.now) }
+{
+    for i in 1..spots.len() {
+        if !is_after(fields[spots[i - 1].position], fields[spots[i].position]) {
+            return false;
+        }
+    }
+    true
+}
+
 impl<'f, 'v, 'l, 'a> FieldList<'f, 'v, 'l, 'a> {
     /// Rule 15: the first field that shares a byte with one before it. It sorts the fields, so it is asked only where they do not ascend.
     pub(crate) fn first_overlap(&self, alloc: Global) -> Result<Option<usize>, AllocError>
@@ -154,7 +169,7 @@ impl<'f, 'v, 'l, 'a> FieldList<'f, 'v, 'l, 'a> {
     {
         let fields = self.fields;
         let spots = sorted_spots(alloc, fields)?;
-        if !is_any_shared(alloc, fields, fields.len(), &spots)? {
+        if are_apart(fields, &spots) {
             return Ok(None);
         }
         Ok(Some(first_sharer(alloc, fields, &spots)?))
