@@ -1,25 +1,20 @@
 """elfmap-picture: a picture of the bytes of a file, for a browser.
 
-    elfmap-picture FILE > FILE.svg
-    elfmap-picture - [TITLE]       of the lines of `elfmap show` on standard input
+    elfmap-picture FILE [TITLE] > FILE.svg
 
-Each part has a row: where it begins, how long it is, whose it is, and its bytes, drawn to
-scale in a bar as long as the file. A bar of a part too short to be seen is drawn two points
-wide. Gaps are hatched, and say whether their first bytes are zeros. In a file without
+FILE is - for standard input. Each part has a row: where it begins, how long it is, whose it is,
+and its bytes, drawn to scale in a bar as long as the file. A bar of a part too short to be seen
+is drawn two points wide. Gaps are hatched, and say whether they are zeros. In a file without
 sections, as an executable that elfmap links, a gap is cut where loadable segments begin and
 end, and a segment that takes memory alone has a row after all parts. Of a file of more than
 300 parts the largest 150 have rows, and each run of others has one together.
-
-The lines come from the library, or from the program that ELFMAP names.
 """
 
 from __future__ import annotations
 
 import os
-import subprocess
-import sys
 from collections.abc import Iterator, Sequence
-from typing import Optional
+from typing import Optional, Union
 from xml.sax.saxutils import escape
 
 import elfmap
@@ -27,8 +22,9 @@ from elfmap import __version__
 from elfmap._commands import FOUND, UNREADABLE, Parser, complain, run_script
 from elfmap._kinds import TYPES, colour_of_flags, colour_of_type
 from elfmap._names import FILE_TYPES, MACHINES
-from elfmap._sources import LONGEST, Unreadable, opened
+from elfmap._sources import LONGEST, Source, Unreadable, opened, standard_input
 from elfmap._words import one_line, printable
+from elfmap.constants import EI_DATA, PT
 
 PROGRAM = "elfmap-picture"
 MOST = 300
@@ -67,14 +63,18 @@ HATCHES = (
     ' height="5" fill="#d09a20"/></pattern>'
 )
 # How the parts are called that are no contents and no gaps.
-TITLES = {"header": "header", "segments": "program table", "sections": "section table"}
+TITLES = {
+    "header": "header",
+    "program headers": "program table",
+    "section headers": "section table",
+}
+# The data encodings of e_ident.
+ORDERS = {1: "little", 2: "big"}
 # The flags of a segment.
 PERMISSIONS = ((4, "R"), (2, "W"), (1, "X"))
+# So many first bytes of a gap are shown.
+SHOWN = 6
 NOTE = "Bars are drawn to scale; what is too short to be seen is drawn two points wide."
-
-
-class NoLines(ValueError):
-    """What was read is not what `elfmap show` prints of a file that it accepts."""
 
 
 class Part:
@@ -97,34 +97,39 @@ class Part:
         self.colour = colour
 
 
-# ---- what the lines say
+# ---- what is in the file
 
 
-def content(words: list[str]) -> tuple[str, str, str]:
-    """What a section's line says of its content: its name, what it holds, and its colour."""
-    kind = int(words[2])
-    flags = int(words[3], 16)
-    name = words[-1]
+def content(section: elfmap.Section) -> tuple[str, str, str]:
+    """The name of a section, what it holds, and its colour."""
+    name = printable(section.name)
+    kind = section.sh_type
     if kind in TYPES:
         return name, TYPES[kind], colour_of_type(kind)
-    colour = colour_of_flags(flags)
+    colour = colour_of_flags(section.sh_flags)
     return name, colour, colour
 
 
-def gap(front: str, length: int) -> str:
-    """What a gap holds, as far as its line shows it: the first 16 bytes."""
-    if set(front) <= {"0"}:
-        return "zeros" if length <= 16 else "16 zeros, …"
-    return front[:12] + ("…" if length > 6 else "")
+def gap(data: memoryview, start: int, end: int) -> Part:
+    """A gap, which says whether it is zeros, and else its first bytes."""
+    held = bytes(data[start:end])
+    if held.count(0) == len(held):
+        holds = "zeros"
+    else:
+        holds = held[:SHOWN].hex() + ("…" if len(held) > SHOWN else "")
+    return Part(start, end - start, "gap", "", holds, "gap")
 
 
 class Load:
-    """A loadable segment, by its line."""
+    """A loadable segment."""
 
-    def __init__(self, words: list[str]) -> None:
-        self.owner = f"segment {words[1]}"
-        self.flags = int(words[3], 16)
-        self.start, self.address, _, self.length, self.size = (int(it, 16) for it in words[4:9])
+    def __init__(self, index: int, segment: elfmap.Segment) -> None:
+        self.owner = f"segment {index}"
+        self.flags = segment.p_flags
+        self.start = segment.p_offset
+        self.address = segment.p_vaddr
+        self.length = segment.p_filesz
+        self.size = segment.p_memsz
 
     def name(self) -> str:
         return f"0x{self.address:x} to 0x{self.address + self.size:x}"
@@ -145,70 +150,48 @@ class Load:
         return self.start <= start and end <= self.start + self.length
 
 
-def among_loads(part: Part, loads: list[Load]) -> Iterator[Part]:
+def among_loads(data: memoryview, first: int, last: int, loads: list[Load]) -> Iterator[Part]:
     """A gap, cut where loadable segments begin and end."""
-    first = part.start
-    last = part.start + part.length
     edges = {first, last}
     for it in loads:
         edges.update(edge for edge in (it.start, it.start + it.length) if first < edge < last)
     ordered = sorted(edges)
     for start, end in zip(ordered, ordered[1:]):
         owner = next((it for it in loads if it.covers(start, end)), None)
-        if owner:
-            yield owner.part(start, end)
-        elif (start, end) == (first, last):
-            yield part
-        else:
-            # Of a piece of a gap the first bytes are not known.
-            yield Part(start, end - start, "gap", "", "", "gap")
+        yield owner.part(start, end) if owner else gap(data, start, end)
 
 
-def rows_of(lines: list[str]) -> list[list[str]]:
-    """The lines in words, if they are of a file that elfmap accepts."""
-    rows = [it.split() for it in lines if it]
-    if rows and rows[0][0] == "refused":
-        raise NoLines(f"elfmap refuses it: {' '.join(rows[0])}; elfmap-explain says why")
-    if not rows or rows[0][0] != "file":
-        first = " ".join(rows[0])[:80] if rows else "none"
-        raise NoLines(f"these are no lines of `elfmap show`: {first}")
-    return rows
+def loads_of(file: elfmap.File) -> list[Load]:
+    """The loadable segments of a file without sections."""
+    if len(file.sections):
+        return []
+    every = enumerate(file.segments)
+    return [Load(index, it) for index, it in every if it.p_type == PT.LOAD]
 
 
-def part_of(words: list[str], sections: dict[int, tuple[str, str, str]]) -> Part:
-    """The part that a line is about."""
-    start = int(words[1], 16)
-    length = int(words[2], 16)
-    owner = words[3]
-    if owner == "content":
-        return Part(start, length, f"section {words[4]}", *sections[int(words[4])])
-    if owner == "gap":
-        return Part(start, length, "gap", "", gap(words[4], length), "gap")
-    return Part(start, length, TITLES[owner])
-
-
-def head_of(words: list[str]) -> str:
-    """The type of the file, its machine and its byte order, by the first line."""
-    number = int(words[3])
+def head_of(header: elfmap.Header) -> str:
+    """The type of the file, its machine and its byte order."""
+    number = header.e_machine
     machine = f"EM_{MACHINES[number]}" if number in MACHINES else f"machine {number}"
-    kind = FILE_TYPES.get(int(words[2]), f"type {words[2]}")
-    return f"{kind}, {machine}, {words[1]}-endian"
+    kind = FILE_TYPES.get(header.e_type, f"type {header.e_type}")
+    return f"{kind}, {machine}, {ORDERS[header.e_ident[EI_DATA]]}-endian"
 
 
-def read(lines: list[str]) -> tuple[list[Part], str]:
-    """The parts of the file, and the head of the picture."""
-    rows = rows_of(lines)
-    sections = {int(it[1]): content(it) for it in rows if it[0] == "section"}
-    loads = []
-    if not sections:
-        loads = [Load(it) for it in rows if it[0] == "segment" and it[2] == "1"]
-    parts: list[Part] = []
-    for words in rows:
-        if words[0] == "part":
-            part = part_of(words, sections)
-            parts += among_loads(part, loads) if part.owner == "gap" else [part]
-    parts += [it.part(it.start, it.start) for it in loads if not it.length]
-    return parts, head_of(rows[0])
+def read(data: Union[bytes, bytearray]) -> tuple[list[Part], str]:
+    """The parts of the file, and the head of the picture; elfmap.Refused if it breaks a rule."""
+    with elfmap.parse(data) as file, memoryview(data) as view:
+        loads = loads_of(file)
+        sections = file.sections
+        parts: list[Part] = []
+        for start, length, owner in file.parts:
+            if isinstance(owner, int):
+                parts.append(Part(start, length, f"section {owner}", *content(sections[owner])))
+            elif owner == "gap":
+                parts += among_loads(view, start, start + length, loads)
+            else:
+                parts.append(Part(start, length, TITLES[owner]))
+        parts += [it.part(it.start, it.start) for it in loads if not it.length]
+        return parts, head_of(file.header)
 
 
 def folded(parts: list[Part]) -> list[Part]:
@@ -375,23 +358,19 @@ def picture(title: str, parts: list[Part], head: str) -> str:
 # ---- the program
 
 
-def shown(path: str) -> bytes:
-    """The lines of `elfmap show` on a file."""
-    program = os.environ.get("ELFMAP")
-    if program:
-        command = [program, "show", "--", path]
-        return subprocess.run(command, stdin=subprocess.DEVNULL, stdout=subprocess.PIPE).stdout
+def bytes_of(source: Source) -> bytearray:
+    """The bytes of a file, as many as the first rule has to see."""
+    data = bytearray(min(len(source), LONGEST))
+    source.read_into(memoryview(data), 0)
+    return data
+
+
+def read_file(path: str) -> bytearray:
+    """The bytes of the file that a word names."""
+    if path == "-":
+        return bytes_of(standard_input())
     with opened(os.fsencode(path)) as source:
-        content = bytearray(min(len(source), LONGEST))
-        source.read_into(memoryview(content), 0)
-    return elfmap.show(content).encode("ascii")
-
-
-def piped() -> bytes:
-    """The lines of `elfmap show` on standard input."""
-    if sys.stdin is None:
-        raise Unreadable("it is closed")
-    return sys.stdin.buffer.read()
+        return bytes_of(source)
 
 
 def _parser() -> Parser:
@@ -401,39 +380,31 @@ def _parser() -> Parser:
         epilog="Status: 0 drawn, 1 elfmap refuses the file, 2 usage, 3 it can't be read.",
     )
     parser.add_argument("--version", action="version", version=f"%(prog)s {__version__}")
-    parser.add_argument(
-        "file",
-        metavar="FILE",
-        help="the file, or - for the lines of `elfmap show` on standard input",
-    )
+    parser.add_argument("file", metavar="FILE", help="the file, or - for standard input")
     parser.add_argument(
         "title", metavar="TITLE", nargs="*", help="the title (the name of the file)"
     )
     return parser
 
 
-def _no_picture(path: bytes, reason: str) -> int:
+def _no_picture(path: bytes, reason: str, status: int) -> int:
     complain(PROGRAM, one_line(path) + f": {reason}".encode("utf-8", "backslashreplace"))
-    return FOUND
+    return status
 
 
 def main(words: Optional[Sequence[str]] = None) -> int:
     """Runs the program, and returns its status."""
     options = _parser().parse_args(words)
-    file = options.file
-    is_piped = options.file == "-"
-    own = b"standard input" if is_piped else os.fsencode(file)
-    title = printable(os.fsencode(" ".join(options.title)) or os.path.basename(own))
+    own = os.fsencode(options.file)
+    name = b"standard input" if options.file == "-" else os.path.basename(own)
+    title = printable(os.fsencode(" ".join(options.title)) or name)
     try:
-        lines = piped() if is_piped else shown(file)
-        drawn = picture(title, *read(lines.decode("ascii").splitlines()))
+        drawn = picture(title, *read(read_file(options.file)))
     except Unreadable as fault:
-        complain(PROGRAM, one_line(own) + f": {fault.reason}".encode())
-        return UNREADABLE
-    except NoLines as fault:
-        return _no_picture(own, str(fault))
-    except (ValueError, LookupError):
-        return _no_picture(own, "these are no lines of `elfmap show`")
+        return _no_picture(own, fault.reason, UNREADABLE)
+    except elfmap.Refused as fault:
+        refused = f"refused {fault.rule} {fault.offset}"
+        return _no_picture(own, f"elfmap refuses it: {refused}; elfmap-explain says why", FOUND)
     with open(1, "wb", closefd=False) as out:
         out.write(drawn.encode("utf-8", "backslashreplace"))
     return 0

@@ -124,7 +124,7 @@ class ClosedTest(Case):
         for command, words, said in (
             ("explain", [], closed),
             ("explain", ["-", "bad.o"], closed),
-            ("picture", ["-"], "standard input: it is closed\n"),
+            ("picture", ["-"], f"-: {closed}"),
             ("lint", ["-"], f"-: {closed}"),
             ("view", ["-"], f"-: {closed}"),
             ("lint", ["--files0-from=-"], "-: bad file descriptor\n"),

@@ -4,6 +4,7 @@ docs/picture.svg is compared by `tools/test shown-commands`.
 """
 
 import os
+import struct
 import subprocess
 import sys
 import unittest
@@ -24,7 +25,23 @@ from tests.made import (
 )  # noqa: F401
 
 PROGRAM = [sys.executable, "-m", "elfmap.picture"]
-HEADER = "file little 1 62 0x0 0x0\npart 0x0 0x40 header\n"
+
+
+def bare(*segments, kind=1, order="<", tail=b""):
+    """A file without sections: its header, a program header for each segment, and more bytes. A
+    segment is its type, flags, offset, address, size in the file and in memory."""
+    ident = b"\x7fELF\2\1\1" if order == "<" else b"\x7fELF\2\2\1"
+    counts = (64, 56, len(segments)) if segments else (64, 0, 0)
+    header = ident, kind, 62, 1, 0, 64 if segments else 0, 0, 0, *counts, 0, 0, 0
+    data = struct.pack(f"{order}16sHHIQQQIHHHHHH", *header)
+    for segment_type, flags, offset, address, size, memory in segments:
+        row = segment_type, flags, offset, address, address, size, memory, 0x1000
+        data += struct.pack(f"{order}IIQQQQQQ", *row)
+    return data + tail
+
+
+def gap(start, length):
+    return picture.Part(start, length, "gap", "", "zeros", "gap")
 
 
 def elements(drawn, tag):
@@ -51,12 +68,18 @@ class Case(FolderCase):
             self.assertIn(it, texts)
         self.assertTrue(any(it.endswith("relocatable, EM_X86_64, little-endian") for it in texts))
 
-    def test_the_lines_of_standard_input(self):
-        status, texts, _ = self.draw("-", "a", "title", stdin=HEADER.encode())
+    def test_standard_input(self):
+        """From a pipe and from a file."""
+        head = "64 bytes in 1 part, 0 of them in 0 gaps; relocatable, EM_X86_64, little-endian"
+        status, texts, _ = self.draw("-", "a", "title", stdin=bare())
         self.assertEqual((status, texts[0]), (0, "a title"))
-        self.assertIn(
-            "64 bytes in 1 part, 0 of them in 0 gaps; relocatable, EM_X86_64, little-endian", texts
-        )
+        self.assertIn(head, texts)
+        Path("a.o").write_bytes(bare())
+        with open("a.o", "rb") as file:
+            ran = subprocess.run([*PROGRAM, "-"], stdin=file, capture_output=True, env=ENVIRONMENT)
+        texts = [it.text for it in elements(ran.stdout, "text")]
+        self.assertEqual((ran.returncode, texts[0]), (0, "standard input"))
+        self.assertIn(head, texts)
 
     def test_a_path_and_a_section(self):
         """The title is the name of the file; what a section holds is told by its type, or else by
@@ -71,72 +94,77 @@ class Case(FolderCase):
         held[".shstrtab"] = "strings"
         self.assertEqual({it: texts[texts.index(it) + 1] for it in held}, held)
 
-    def test_types_of_files(self):
+    def test_heads(self):
         names = ("no type", "relocatable", "executable", "shared object", "core")
         for number, name in (*enumerate(names), (9, "type 9")):
-            head = picture.read(HEADER.replace("little 1", f"little {number}").splitlines())[1]
+            head = picture.read(bare(kind=number))[1]
             self.assertEqual(head, f"{name}, EM_X86_64, little-endian")
+        self.assertEqual(picture.read(bare(order=">"))[1], "relocatable, EM_X86_64, big-endian")
+
+    def test_names(self):
+        """A name in letters that can be printed; without one there is nothing."""
+        made = Made((b"a\xff\x1b", 1, b"\1", {}), (b"", 1, b"\1", {}))
+        names = [it.name for it in picture.read(made.data)[0] if it.owner[:7] == "section"]
+        self.assertEqual(names[:2], ["a\\xff\\x1b", ""])
 
     def test_gaps(self):
-        """A line has the first 16 bytes alone; the head has how many bytes all gaps have."""
-        zeros = ((5, "00" * 5), (16, "00" * 16), (20, "00" * 16))
-        others = ((7, "00112233445566"), (6, "001122334455"))
-        lines = HEADER
-        starts = []
-        at = 64
-        for size, front in (*zeros, *others):
-            starts.append(at)
-            lines += f"part {at:#x} {size:#x} gap {front}\n"
-            at += size
-        texts = self.draw("-", stdin=lines.encode())[1]
-        counts = "118 bytes in 6 parts, 54 of them in 5 gaps"
-        self.assertIn(f"{counts}; relocatable, EM_X86_64, little-endian", texts)
-        held = [texts[texts.index(hex(it)) + 3] for it in starts]
-        self.assertEqual(held, ["zeros", "zeros", "16 zeros, …", "001122334455…", "001122334455"])
+        """What a gap holds: zeros, or its first six bytes; the head has how many bytes all have."""
+        for held, said in (
+            (bytes(5), "zeros"),
+            (bytes(1 << 17), "zeros"),
+            (bytes.fromhex("00112233445566"), "001122334455…"),
+            (bytes.fromhex("001122334455"), "001122334455"),
+            (bytes(1 << 17) + b"\1", "000000000000…"),
+        ):
+            parts, _ = picture.read(bare(tail=held))
+            self.assertEqual([it.holds for it in parts if it.owner == "gap"], [said])
+            self.assertEqual([it.length for it in parts], [64, len(held)])
+        texts = self.draw("-", stdin=bare(tail=b"\1" * 20))[1]
+        self.assertIn(
+            "84 bytes in 2 parts, 20 of them in 1 gap; relocatable, EM_X86_64, little-endian", texts
+        )
 
     def test_segments_of_a_file_without_sections(self):
         """Two loadable segments of the file, each of which ends one byte before what is after it,
-        and one of memory alone."""
-        lines = (
-            "file little 2 62 0x400000 0x0\n"
-            "part 0x0 0x40 header\n"
-            "part 0x40 0xa8 segments\n"
-            "part 0xe8 0x118 gap 00\n"
-            "segment 0 1 0x5 0x100 0x400100 0x400100 0x7f 0x7f 0x1000\n"
-            "segment 1 1 0x4 0x180 0x401180 0x401180 0x7f 0x7f 0x1000\n"
-            "segment 2 1 0x6 0x200 0x402200 0x402200 0x0 0x300 0x1000\n"
-        )
-        parts, head = picture.read(lines.splitlines())
+        one of memory alone, and a note, which cuts nothing."""
+        segments = [
+            (1, 5, 0x120, 0x400120, 0x5F, 0x5F),
+            (1, 4, 0x180, 0x401180, 0x7F, 0x7F),
+            (1, 6, 0x200, 0x402200, 0, 0x300),
+            (4, 4, 0x190, 0x401190, 0x10, 0x10),
+        ]
+        data = bytearray(bare(*segments, kind=2))
+        data += bytes(0x200 - len(data))
+        data[0x1FF] = 0xAB
+        parts, head = picture.read(data)
         self.assertEqual(head, "executable, EM_X86_64, little-endian")
         self.assertEqual(
             [(it.start, it.length, it.owner, it.name, it.holds) for it in parts],
             [
                 (0, 0x40, "header", "", ""),
-                (0x40, 0xA8, "program table", "", ""),
-                (0xE8, 0x18, "gap", "", ""),
-                (0x100, 0x7F, "segment 0", "0x400100 to 0x40017f", "code RX"),
-                (0x17F, 1, "gap", "", ""),
+                (0x40, 0xE0, "program table", "", ""),
+                (0x120, 0x5F, "segment 0", "0x400120 to 0x40017f", "code RX"),
+                (0x17F, 1, "gap", "", "zeros"),
                 (0x180, 0x7F, "segment 1", "0x401180 to 0x4011ff", "constants R"),
-                (0x1FF, 1, "gap", "", ""),
+                (0x1FF, 1, "gap", "", "ab"),
                 (0x200, 0, "segment 2", "0x402200 to 0x402500", "zeros in memory RW"),
             ],
         )
         # Of the first one more bytes are in memory than in the file.
-        longer = lines.replace("0x400100 0x7f 0x7f", "0x400100 0x7f 0x8f")
-        parts, _ = picture.read(longer.splitlines())
-        self.assertEqual(parts[3].name, "0x400100 to 0x40018f")
+        longer = bare((*segments[0][:5], 0x6F), tail=bytes(0x200))
+        self.assertEqual(picture.read(longer)[0][3].name, "0x400120 to 0x40018f")
 
-    def bars(self, lines):
+    def bars(self, *parts):
         """Of each row where its bar begins, and how wide it is: the last ones that have a title."""
-        parts, head = picture.read(lines.splitlines())
-        drawn = [it for it in elements(picture.picture("", parts, head), "rect") if len(it)]
+        drawn = [it for it in elements(picture.picture("", list(parts), ""), "rect") if len(it)]
         return [(float(it.get("x")), float(it.get("width"))) for it in drawn[len(parts) :]]
 
     def test_bars_are_drawn_to_scale(self):
         """The file is 520 points long, from 640 on."""
-        self.assertEqual(self.bars(HEADER + "part 0x40 0xc0 gap 00\n"), [(640, 130), (770, 390)])
-        short = "part 0x40 0xfffbf gap 00\npart 0xfffff 0x1 gap 00\n"
-        self.assertEqual(self.bars(HEADER + short), [(640, 2), (640.03, 519.97), (1158, 2)])
+        header = picture.Part(0, 64, "header")
+        self.assertEqual(self.bars(header, gap(64, 192)), [(640, 130), (770, 390)])
+        short = gap(64, 0xFFFBF), gap(0xFFFFF, 1)
+        self.assertEqual(self.bars(header, *short), [(640, 2), (640.03, 519.97), (1158, 2)])
 
     def test_words_that_are_too_long(self):
         found = [picture.cut("abcdefghij", it) for it in (4, 5, 9, 10)]
@@ -146,10 +174,8 @@ class Case(FolderCase):
         """Of 401 parts the largest have rows; all others, which are beside each other, have one
         together."""
         starts = [64 + sum(range(1, it)) for it in range(1, 402)]
-        lines = HEADER
-        for size, at in zip(range(1, 401), starts):
-            lines += f"part {at:#x} {size:#x} gap 00\n"
-        parts, _ = picture.read(lines.splitlines())
+        parts = [picture.Part(0, 64, "header")]
+        parts += [gap(at, size) for size, at in zip(range(1, 401), starts)]
         rows = picture.folded(parts)
         self.assertEqual(sum(it.length for it in rows), starts[-1])
         self.assertEqual([it.start for it in rows], [0, *(it.start for it in rows[1:])])
@@ -172,36 +198,24 @@ class Case(FolderCase):
             self.assertEqual(len(picture.folded(parts)), rows)
 
     def test_many_parts(self):
-        gaps = "".join(f"part {hex(64 + k)} 0x1 gap 00\n" for k in range(1000))
-        lines = f"{HEADER}{gaps}part 0x428 0x100 gap 00\n"
-        parts, head = picture.read(lines.splitlines())
-        self.assertEqual((len(parts), head), (1002, "relocatable, EM_X86_64, little-endian"))
+        """A thousand sections of one byte, and between each two of them a gap of seven."""
+        made = Made(*((b".s", 1, b"\1", {}) for _ in range(1000)))
+        parts, head = picture.read(made.data)
+        self.assertEqual((len(parts), head), (2003, "relocatable, EM_X86_64, little-endian"))
         self.assertLess(picture.picture("many", parts, head).count("<rect"), 3 * picture.MOST)
 
     def test_what_is_rejected(self):
-        Path("bad.o").write_bytes(SHARING)
-        for program in ({}, {"ELFMAP": "/bin/false"}):
-            status, texts, said = self.draw("bad.o", **program)
-            self.assertEqual((status, texts), (1, []))
-            self.assertTrue(said.startswith("elfmap-picture: bad.o: "), said)
-        self.assertIn(
-            "elfmap refuses it: refused 33 114; elfmap-explain says why", self.draw("bad.o")[2]
-        )
-
-    def test_what_are_no_lines(self):
-        for lines in (
-            b"",
-            b"\n",
-            b"file\n",
-            b"file little 1\n",
-            b"\xff\n",
-            HEADER.encode() + b"part 0x0 zz content 9\n",
-            b"x" * 100_000,
+        for stdin, name, refused in (
+            (SHARING, "bad.o", "refused 33 114"),
+            (b"", "-", "refused 2 0"),
+            (b"file little 1 62 0x0 0x0\n", "-", "refused 2 25"),
+            (b"x" * 100_000, "-", "refused 3 0"),
         ):
-            status, texts, said = self.draw("-", stdin=lines)
-            self.assertEqual(
-                (status, texts, "lines of `elfmap show`" in said), (1, [], True), lines[:50]
-            )
+            Path("bad.o").write_bytes(stdin)
+            status, texts, said = self.draw(name, stdin=stdin)
+            self.assertEqual((status, texts), (1, []))
+            reason = f"elfmap refuses it: {refused}; elfmap-explain says why"
+            self.assertEqual(said, f"elfmap-picture: {name}: {reason}\n")
 
     def test_what_can_not_be_read(self):
         os.mkfifo("pipe")
