@@ -32,7 +32,7 @@ LINK = f"link {PLACE} --entry {ENTRY} FILES"
 # The status by which a program that validates files says that it found a fault: it did its work.
 FAULT = {"eu-elflint": 1}
 # As much memory as the largest of the linkers takes, in MiB.
-WARM = 640
+WARM = 768
 
 
 class Work(NamedTuple):
