@@ -7,7 +7,7 @@ from .tree import PACKAGE, TOP
 PROGRAMS = [f"{TOP}/tools/{it}" for it in ("dev", "test", "release")]
 # The script of the template of an application, which stands alone.
 TAKE = f"{TOP}/examples/application/take-elfmap"
-BENCHMARKS = [f"{TOP}/bench/{it}" for it in ("growth", "library", "lint", "slow")]
+BENCHMARKS = [f"{TOP}/bench/{it}" for it in ("growth", "library", "lint", "peers", "slow")]
 # The conformance suite, in its folder.
 CONFORMANCE = ["run.py", "elf_conformance/*.py", "cases/*.py", "adapters/*.py"]
 SETTINGS = f"{TOP}/tools/pyproject.toml"

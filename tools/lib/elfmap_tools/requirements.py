@@ -1,5 +1,5 @@
-"""The commands that tests start, and the Debian packages that have them. `tools/test setup`
-installs the packages of the commands that are missing."""
+"""The commands that tests and bench/peers start, and the Debian packages that have them.
+`tools/test setup` installs the packages of the commands of tests that are missing."""
 
 import glob
 import os
@@ -38,13 +38,13 @@ SANITIZERS = "/usr/lib/llvm-*/lib/clang/*/lib/linux/libclang_rt.asan-x86_64.a"
 # that have the name of their package.
 COMMANDS = {
     "binaryen": "wasm-opt",
-    "binutils": "addr2line ar as ld nm objcopy objdump readelf strip",
+    "binutils": "addr2line ar as ld ld.bfd ld.gold nm objcopy objdump readelf strip",
     "binutils-x86-64-linux-gnu": "x86_64-linux-gnu-as",
     "cargo-web": "cargo",
     "chromium-driver": "chromedriver",
     "debhelper": "dh",
     "dpkg": "dpkg-deb",
-    "elfutils": "eu-elflint eu-strip",
+    "elfutils": "eu-elflint eu-readelf eu-strip",
     "g++": "c++ g++",
     "gcc": "cc gcc",
     "guile-json": GUILE_JSON,
@@ -55,8 +55,9 @@ COMMANDS = {
     "libklibc-dev": KLIBC,
     "libqt6svg6": QT_SVG,
     "lld": "ld.lld",
+    "lld-14": "ld.lld-14",
     "lld-19": "ld.lld-19",
-    "llvm": "llvm-objcopy llvm-readobj",
+    "llvm": "llvm-objcopy llvm-readelf llvm-readobj",
     "llvm-19": "llvm-mc-19",
     "ncompress": "compress",
     "nodejs": "node",
@@ -124,10 +125,14 @@ def missing(commands: Iterable[str]) -> list[str]:
     return [it for it in commands if not is_there(it)]
 
 
+def lacks(command: str) -> str:
+    """What to say of a missing command: its package."""
+    return f"there is no {command} (package {PACKAGES.get(command, command)})"
+
+
 def words_of(lacking: Iterable[str]) -> str:
-    """What to say of missing commands: the package of each, and how to get it."""
-    each = (f"there is no {it} (package {PACKAGES.get(it, it)})" for it in lacking)
-    return f"{', '.join(each)}; `tools/test setup` gets it"
+    """What to say of the missing commands of a test: the package of each, and how to get it."""
+    return f"{', '.join(map(lacks, lacking))}; `tools/test setup` gets it"
 
 
 def by_apt(script: str, packages: Iterable[str]) -> None:
@@ -152,5 +157,5 @@ def setup(commands: Iterable[str]) -> bool:
     by_apt(FETCH, (PACKAGES[it] for it in fetched))
     left = missing(lacking)
     if left:
-        print(f"setup: still {words_of(left)}", file=sys.stderr)
+        print(f"setup: still {', '.join(map(lacks, left))}", file=sys.stderr)
     return not left

@@ -44,6 +44,7 @@ SKIPPED = {
     "python3 -m venv venv && venv/bin/pip install elfmap-*.whl": WHEEL,
     "venv/bin/elfmap-gaps --most 20 /usr/lib": WHEEL,
     "bench/run": MEASURES,
+    "bench/run --peers": MEASURES,
     "bench/growth crates/elfmap/out/elfmap": MEASURES,
     "bench/library": MEASURES,
     "bench/lint": MEASURES,
