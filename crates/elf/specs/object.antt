@@ -2,6 +2,7 @@
 pub use Rattle.elf_object.specs.Denotes
 pub use Rattle.elf_object.specs.FileRules
 pub use Rattle.elf_object.specs.Laid
+pub use Rattle.elf_object.specs.Left
 pub use Rattle.elf_object.specs.Object
 pub use Rattle.elf_object.specs.ObjectFile
 pub use Rattle.elf_object.specs.ObjectRules

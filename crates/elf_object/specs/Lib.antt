@@ -8,6 +8,7 @@ pub use Rattle.elf_object_layout.specs.StringTables
 pub use Rattle.elf_object_reader.specs.Denotes
 pub use Rattle.elf_object_reader.specs.FileRules
 pub use Rattle.elf_object_strings.specs.StringTable
+pub use Rattle.elf_object_type.specs.Left
 pub use Rattle.elf_object_type.specs.ObjectRules
 pub use Rattle.elf_object_type.specs.Object
 pub use Rattle.elf_object_type.specs.ObjectView

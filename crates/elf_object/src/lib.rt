@@ -29,6 +29,7 @@ pub use elf_object_layout::{Layout, LayoutFault, lay_out};
 pub use elf_object_reader::object_of;
 pub use elf_object_strings::{Shared, shared_table};
 pub use elf_object_type::{
-    Body, Info, Object, ObjectFault, ObjectParts, Place, Relocation, Relocations, Section, Symbol,
+    Body, Info, Object, ObjectFault, ObjectParts, Place, Relocation, RelocationIter, Relocations,
+    Section, Symbol,
 };
 pub use elf_object_writer::ObjectWriteFault;
