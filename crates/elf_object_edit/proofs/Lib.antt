@@ -2,5 +2,4 @@
 mod Edited
 mod Ends
 mod NothingLeftOut
-mod Positions
 pub mod Public
