@@ -1,5 +1,6 @@
 -- The definitions in the contracts that this public crate shows, for the contracts of those who build on it.
 pub mod Types
+pub use Rattle.elf_object_edit.specs.Retain
 pub use Rattle.elf_object_edit.specs.Without
 pub use Rattle.elf_object_file.specs.ObjectFile
 pub use Rattle.elf_object_layout.specs.Laid

@@ -2,4 +2,5 @@
 mod Edited
 mod Ends
 mod NothingLeftOut
+mod Retained
 pub mod Public
