@@ -10,6 +10,7 @@ pub use Rattle.elf_object_writer.specs.declared.object_writing.ObjectWriteFault
 pub use Rattle.elf_object_type.specs.declared.parts.Place
 pub use Rattle.elf_object_edit.specs.declared.fault.Reference
 pub use Rattle.elf_object_type.specs.declared.relocations.Relocation
+pub use Rattle.elf_object_type.specs.declared.relocations.RelocationIter
 pub use Rattle.elf_object_type.specs.declared.relocations.Relocations
 pub use Rattle.elf_object_type.specs.declared.parts.Section
 pub use Rattle.elf_object_strings.specs.declared.table.Shared

@@ -3,7 +3,7 @@
 //!
 //! An [`Object`] is made from its [`ObjectParts`], or read from an image by [`object_of`]; it keeps the [`rules`] of objects from then on.
 //! [`lay_out`] reports its canonical layout, and [`write_object`] writes it: what is written is read back as the object. [`without`] leaves
-//! sections out. An object without sections or symbols is written so:
+//! sections out, and [`retain`] has a closure that says which ones stay. An object without sections or symbols is written so:
 //!
 //! ```
 //! let parts = ObjectParts {
@@ -23,12 +23,13 @@
 pub mod laws;
 pub mod rules;
 
-pub use elf_object_edit::{Reference, WithoutFault, without};
+pub use elf_object_edit::{Reference, WithoutFault, retain, without};
 pub use elf_object_file::{prove_read_back, write_object};
 pub use elf_object_layout::{Layout, LayoutFault, lay_out};
 pub use elf_object_reader::object_of;
 pub use elf_object_strings::{Shared, shared_table};
 pub use elf_object_type::{
-    Body, Info, Object, ObjectFault, ObjectParts, Place, Relocation, Relocations, Section, Symbol,
+    Body, Info, Object, ObjectFault, ObjectParts, Place, Relocation, RelocationIter, Relocations,
+    Section, Symbol,
 };
 pub use elf_object_writer::ObjectWriteFault;

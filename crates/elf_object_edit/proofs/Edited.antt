@@ -6,17 +6,17 @@ use Rattle.std.proofs.Common.{map, sym, ap, subst, ◌∙◌, arith}
 use Rattle.std.specs.Prelude.{slice_index, IfSome}
 use Rattle.std.specs.List.{slice_get}
 use Rattle.std.specs.Option.{option_map}
-use Rattle.std.proofs.lemmas.Bool.{cases_lt}
-use Rattle.std.proofs.lemmas.List.{get_or-map, length-map}
+use Rattle.std.proofs.lemmas.Bool.{cases_lt, true_from_ne_false}
+use Rattle.std.proofs.lemmas.List.{get_or-map, get_or_past, length-map}
 use Rattle.std.proofs.lemmas.Option.{slice_get-get_or}
 use Rattle.elf_field.specs.Abi.{SHF_GROUP}
-use Rattle.elf_object_edit.proofs.Positions.{IsListed, listed, one_place, places_ascend, stands_at, stays_there, true_unless}
 use Rattle.elf_object_edit.specs.Without.{IsLeftOut, NoneDangles, body_entries, has_staying_place, moved_body, moved_info, moved_place}
 use Rattle.elf_object_edit.specs.Without.{moved_relocation, moved_section, moved_symbol, new_position, body_signature, staying}
 use Rattle.elf_object_edit.specs.Without.{staying_symbols}
 use Rattle.elf_object_edit.specs.Without.{stays, body_target, with_staying}
 use Rattle.elf_object_edit.specs.declared.fault.Reference.TheVariants.{Link, Target, Signature, Member}
 use Rattle.elf_object_edit.specs.declared.fault.Reference.TheVariants as reference
+use Rattle.elf_object_type.proofs.Public.{IsListed, listed, one_place, places_ascend, stands_at}
 use Rattle.elf_object_type.specs.Object.{BodyValue, bits, no_bits, relocs, group, ObjectValue, SectionValue, SymbolValue, section_at}
 use Rattle.elf_object_type.specs.Object.{symbol_at}
 use Rattle.elf_object_type.specs.Object.{HasZero, LacksFlag, info_position, is_bits, is_group, members_of, no_relocation, no_section}
@@ -58,6 +58,12 @@ symbol_of o S Y q lt =
     let moved : ℕ → SymbolValue = λ k. moved_symbol S (symbol_at o k) in
     (k, is, get_or-map moved (staying Y) q 0 no_symbol below ∙ ap moved is.at)
 
+stays_there : (marks : List Bool) (p : ℕ) → stays marks p ≡ true → p < length marks
+stays_there marks p is = elim (cases_lt p (length marks)) [
+  | inl below ↦ below
+  | inr past ↦ (let both : true ≡ false = sym is ∙ get_or_past marks p false past in cc)
+]
+
 -- the new position of one that stays
 position_there : (marks : List Bool) (p : ℕ) → stays marks p ≡ true → new_position marks p < new_position marks (length marks)
 position_there marks p is = places_ascend (stays marks) p (length marks) (stays_there marks p is) is
@@ -70,7 +76,7 @@ moved_at o S Y p is =
 
 -- what is named stays unless it is left
 named_stays : (marks : List Bool) (p : ℕ) → (IsLeftOut marks (Some p) → ⊥) → stays marks p ≡ true
-named_stays marks p never = true_unless (stays marks p) never
+named_stays marks p never = true_from_ne_false (stays marks p) never
 
 named_there : (marks : List Bool) (n : ℕ) (named : Option ℕ) → n ≡ new_position marks (length marks) → (IsLeftOut marks named → ⊥) →
     IfSome (option_map (new_position marks) named) (λ p. p < n)

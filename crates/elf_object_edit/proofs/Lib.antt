@@ -2,5 +2,5 @@
 mod Edited
 mod Ends
 mod NothingLeftOut
-mod Positions
+mod Retained
 pub mod Public

@@ -7,7 +7,7 @@ use Rattle.std.specs.List.{range_with_len}
 use Rattle.std.specs.Option.{option_map}
 use Rattle.std.proofs.lemmas.List.{ext_get_or, get_or-map, length-map}
 use Rattle.std.proofs.lemmas.List.FromFn.{get_or-map-range_with_len, length-map-range_with_len}
-use Rattle.elf_object_edit.proofs.Positions.{passing, passing_one, range_more}
+use Rattle.elf_object_type.proofs.Public.{passing, passing_one, range_more}
 use Rattle.elf_object_edit.specs.Without.{has_staying_place, moved_body, moved_info, moved_place, moved_relocation, moved_section}
 use Rattle.elf_object_edit.specs.Without.{moved_symbol}
 use Rattle.elf_object_edit.specs.Without.{new_position, object_without, staying, staying_sections, staying_symbols, stays, with_staying}

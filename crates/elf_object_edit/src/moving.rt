@@ -48,21 +48,20 @@ impl<'o, 'a> Edit<'o, 'a> {
     ) -> Result<Relocations<'a>, AllocError>
         ensures { IfOk result (λ moved. moved ≡ map (moved_relocation self.now.symbols.marks.items) entries.now) }
     {
-        let mut moved = Vec::with_capacity(alloc, entries.len())?;
-        for j in 0..entries.len() {
-            moved.push(self.moved_relocation(entries.entry(j)))?;
-        }
+        let moved: Vec<Relocation> = entries
+            .iter()
+            .map(|relocation| self.moved_relocation(relocation))
+            .collect(alloc)?;
         Ok(Relocations::from(moved))
     }
 
     fn moved_members(&self, alloc: Global, members: &[usize]) -> Result<Vec<usize>, AllocError>
         ensures { IfOk result (λ moved. moved.items ≡ map (new_position self.now.sections.marks.items) members.now) }
     {
-        let mut moved = Vec::with_capacity(alloc, members.len())?;
-        for j in 0..members.len() {
-            moved.push(self.sections.position(members[j]))?;
-        }
-        Ok(moved)
+        members
+            .iter()
+            .map(|member| self.sections.position(*member))
+            .collect(alloc)
     }
 
     fn moved_body(&self, alloc: Global, body: &Body<'a>) -> Result<Body<'a>, AllocError>

@@ -24,6 +24,7 @@ use Rattle.elf_object_layout.specs.SectionsLeftOut.{left_out, symbol_table, is_k
 use Rattle.elf_object_reader.specs.Denotes.{Denotes, symbol_denoted, symbols_denoted, place_denoted, relocation_denoted}
 use Rattle.elf_object_reader.specs.FileRules.{block_end, IsSymbolOutside, file_rules, rules_of_symbols, symbol_outside_rules}
 use Rattle.elf_object_layout.specs.declared.left_out.LeftOut.{LeftOut}
+use Rattle.elf_object_type.proofs.Public.{cases_bool}
 use Rattle.elf_object_type.specs.Object.{SymbolValue, ObjectValue, IsPast, no_symbol, symbol_at, table_count, table_relocation}
 use Rattle.elf_object_type.specs.Object.{table_relocations}
 use Rattle.elf_object_type.specs.ObjectRules.{misplaced_local, place_position, wrong_place, zero_in_symbol_name}
@@ -334,10 +335,6 @@ kept_there left f k is = elim (cases_lt k (count f)) [
   | inl there ↦ there
   | inr past ↦ absurd (let other : true ≡ false = sym is ∙ not_kept_past left f k past in cc)
 ]
-
-cases_bool : (b : Bool) → (b ≡ true) ⊎ (b ≡ false)
-cases_bool true = inl refl
-cases_bool false = inr refl
 
 -- a place that rule 75 lets pass is one of an object
 place_kept : (f : Sections) (o : ObjectValue) (place : table_place.Place) → Denotes f o → (IsSymbolOutside (left_out f) f place → ⊥) →

@@ -1,6 +1,6 @@
 -- Runs of the rules of relocatable files find what the whole list of rules finds.
 use Rattle.std.proofs.Common.{None, ◌≡◌, ℕ, List, [], ◌++◌, Option, Some, Result, Ok, Err, sym, subst, ◌+◌, ◌-◌, ◌<◌, true, false, inl}
-use Rattle.std.proofs.Common.{refl, ◌≢◌, ◌⊎◌, inr, Bool, arith}
+use Rattle.std.proofs.Common.{refl, ◌≢◌, ◌⊎◌, inr, Bool, arith, ◌∷◌, suc, ap, ◌∙◌}
 use Rattle.std.specs.Prelude.{IfErr, IfOk, filter}
 use Rattle.std.specs.Result.{IsErrAnd}
 use Rattle.std.specs.List.{range_with_len}
@@ -12,7 +12,6 @@ use Rattle.elf_image_rules.proofs.Public.{FirstIn-after, FirstIn-front, FirstIn-
 use Rattle.elf_image_rules.specs.Rows.{FirstIn, Ruled}
 use Rattle.elf_image_stream.specs.declared.fault.BytesFault.TheVariants.{OutOfMemory, Rule}
 use Rattle.elf_image_stream.specs.declared.fault.BytesFault.{BytesFault}
-use Rattle.elf_object_reader.proofs.Kept.{filter_from_kept, filter_from_other}
 use Rattle.elf_object_layout.specs.SectionsLeftOut.{left_out, symbol_table, is_kept}
 use Rattle.elf_object_reader.specs.Denotes.{kept, body_kind}
 use Rattle.elf_object_reader.specs.FileRules.{file_rules, front_rules, reference_rules, rules_after_front, rules_of_bodies}
@@ -128,6 +127,20 @@ pub memory_wanted : {T : Type 0} (f : Sections) (Is : T → Type 0) (result : Re
 memory_wanted f Is (Ok value) clean said = absurd said
 memory_wanted {T} f Is (Err error) clean said =
     subst (λ (e : BytesFault). IsTestedAfter {T = T} (front_rules f) (file_rules f) Is (Err e)) (sym said) (front_sound f clean)
+
+-- The indexes that pass from i on: i itself if it passes, and those from i + 1 on.
+
+-- the indexes from i on are i and those from i + 1 on
+range_from : (n i : ℕ) → i < n → range_with_len i (n - i) ≡ i ∷ range_with_len (i + 1) (n - (i + 1))
+range_from n i lt = (let same : n - i ≡ suc (n - (i + 1)) = omega arith in ap (λ (k : ℕ). range_with_len i k) same)
+
+filter_from_kept : (p : ℕ → Bool) (n i : ℕ) → i < n → p i ≡ true →
+    filter p (range_with_len i (n - i)) ≡ i ∷ filter p (range_with_len (i + 1) (n - (i + 1)))
+filter_from_kept p n i lt is = ap (λ (xs : List ℕ). filter p xs) (range_from n i lt) ∙ rw is refl
+
+filter_from_other : (p : ℕ → Bool) (n i : ℕ) → i < n → p i ≡ false →
+    filter p (range_with_len i (n - i)) ≡ filter p (range_with_len (i + 1) (n - (i + 1)))
+filter_from_other p n i lt is = ap (λ (xs : List ℕ). filter p xs) (range_from n i lt) ∙ rw is refl
 
 -- Steps of a loop over the sections. Invariant (`IsFoundByAll`): the first fault in the tables of the kept sections from i on is the first
 -- of all. A section that is left out, or kept without a fault, keeps it for i + 1. If the kept section i has a fault, that is the first one

@@ -22,7 +22,7 @@ use Rattle.elf_image_rules.specs.Rows.{FirstIn}
 use Rattle.elf_field.specs.Strings.{string}
 use Rattle.elf_object_reader.proofs.FileRules.{all_bodies_sound, front_sound, symbols_sound}
 use Rattle.elf_object_layout.proofs.Public.{and_true, first_found, symbol_table_there}
-use Rattle.elf_object_reader.proofs.Kept.{listed, stands_at}
+use Rattle.elf_object_type.proofs.Public.{listed, stands_at}
 use Rattle.elf_object_layout.specs.SectionsLeftOut.{is_kept, left_out, is_at, symbol_indexes, symbol_table}
 use Rattle.elf_object_reader.specs.Denotes.{Denotes, section_denoted, kept, position_of, body_denoted, body_kind, info_denoted}
 use Rattle.elf_object_reader.specs.Denotes.{link_denoted, relocation_denoted, section_name_of}

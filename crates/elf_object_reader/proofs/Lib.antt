@@ -1,5 +1,4 @@
 -- `Public` is for the proofs of the crates above, the others are for those of this one.
-pub mod Kept
 pub mod FileRules
 pub mod DenotedSymbols
 pub mod NameTails

@@ -15,7 +15,6 @@ use Rattle.elf_image_rules.specs.Rows.{FirstIn}
 use Rattle.elf_object_reader.proofs.DenotedSymbols.{length_symbols_of, kept_there, no_misplaced_local, no_wrong_place}
 use Rattle.elf_object_reader.proofs.DenotedSymbols.{no_zero_in_symbol_name}
 use Rattle.elf_object_reader.proofs.FileRules.{references_sound}
-use Rattle.elf_object_reader.proofs.Kept.{one_place, places_ascend}
 use Rattle.elf_object_reader.proofs.KeptTypes.{no_foreign_section, symbol_table_at, denoted_with, section_with, position_there}
 use Rattle.elf_object_reader.proofs.KeptTypes.{section_at_index, section_at_position, differs, table_sound, no_wrong_alignment}
 use Rattle.elf_object_reader.proofs.KeptTypes.{no_wrong_field, no_zero_in_section_name, no_wrong_bits_type}
@@ -27,7 +26,7 @@ use Rattle.elf_object_reader.specs.FileRules.{wrong_kept_info, wrong_kept_link, 
 use Rattle.elf_object_reader.specs.declared.object_file.BodyKind.TheVariants.{Bits, NoBits, Relocs, Group}
 use Rattle.elf_object_reader.specs.declared.object_file.BodyKind.{BodyKind}
 use Rattle.elf_object_layout.specs.declared.left_out.LeftOut.{LeftOut}
-use Rattle.elf_object_type.proofs.Public.{found_in_symbols}
+use Rattle.elf_object_type.proofs.Public.{cases_bool, found_in_symbols, one_place, places_ascend}
 use Rattle.elf_object_type.specs.Object.{ObjectValue, SymbolValue, symbol_reference, SectionValue, IsPast, info_position, is_bits}
 use Rattle.elf_object_type.specs.Object.{section_at, LacksFlag, is_group, members_of}
 use Rattle.elf_object_type.specs.ObjectRules.{HasWrongPosition, IsNoTarget, wrong_position, IsInEarlierGroup, IsWrongMembership}
@@ -122,10 +121,6 @@ no_wrong_member f i sound =
 no_wrong_group_member : (f : Sections) → FirstIn (file_rules f) None → Never (wrong_group_member (left_out f) f)
 unfolding reference_rules
 no_wrong_group_member f clean = (references_sound f clean).1.0
-
-cases_bool : (b : Bool) → (b ≡ true) ⊎ (b ≡ false)
-cases_bool true = inl refl
-cases_bool false = inr refl
 
 pub member_sound : (f : Sections) (i j : ℕ) → FirstIn (file_rules f) None → i < count f → FirstIn (group_section_rules f i) None →
     j < member_count (content f i) → IsMember f i j (member (order f) (content f i) j)

@@ -3,3 +3,4 @@ pub mod KeepsObjectRules
 pub mod ObjectDecided
 pub mod Public
 pub mod PartsOfObjects
+pub mod Positions

@@ -31,7 +31,6 @@ use Rattle.elf_object_type.specs.declared.parts.Symbol.{Symbol}
 use Rattle.elf_object_type.specs.declared.relocations.RelocationTable.{RelocationTable}
 use Rattle.elf_field.specs.contracts.number.OrderPartialEq.TheImpl as order_eq
 use Rattle.elf_object_type.specs.contracts.parts.ObjectPartsPartialEq.TheImpl as parts_eq
-use Rattle.elf_object_type.specs.contracts.relocations.RelocationPartialEq.TheImpl as relocation_eq
 use Rattle.elf_object_type.specs.contracts.parts.BodyPartialEq.TheImpl as body_eq
 use Rattle.elf_object_type.specs.contracts.parts.InfoPartialEq.TheImpl as info_eq
 use Rattle.elf_object_type.specs.contracts.parts.SectionPartialEq.TheImpl as section_eq

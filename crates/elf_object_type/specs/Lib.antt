@@ -1,4 +1,5 @@
 -- The definitions that this crate's contracts use.
+pub mod Left
 pub mod Object
 pub mod ObjectView
 pub mod ObjectRules

@@ -30,4 +30,4 @@ mod section_rules;
 pub use laws::{kept_object_rules, one_object_fault};
 pub use object::{NameEnds, Object, ObjectFault, kept_object, section_ends, symbol_ends};
 pub use parts::{Body, Info, ObjectParts, Place, Section, Symbol};
-pub use relocations::{Relocation, Relocations, relocation_size};
+pub use relocations::{Relocation, RelocationIter, Relocations, relocation_size};

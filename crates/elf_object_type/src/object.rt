@@ -126,6 +126,15 @@ impl<'a> Object<'a> {
         Ok(Object { parts, ends })
     }
 
+    /// The parts of the object, for an edit: [`Object::new`] makes an object of them again. They break no rule. It takes no memory.
+    pub fn into_parts(self) -> ObjectParts<'a>
+        ensures parts { value_of result ≡ self.entry }
+        ensures kept { IsObject (value_of result) }
+        ensures fits { ObjectFits (value_of result) }
+    {
+        self.parts
+    }
+
     /// Proves that no object rule is broken, that each number fits its field in a file, and that names and bits are bytes. A contract does
     /// not see the invariant of an object in a list: this call shows it. It does nothing.
     pub fn prove_rules(&self)

@@ -8,6 +8,7 @@ ghost use Rattle.elf_field.specs.Bytes.{IsBytes};
 
 use crate::relocations::Relocations;
 use elf_field::Order;
+use std::alloc::AllocError;
 
 // A symbol of an object (gABI chapter 4, Symbol Table).
 
@@ -95,6 +96,36 @@ pub enum Body<'a> {
     },
 }
 
+impl Clone for Body<'_> {
+    ghost is_clone = { λ body copy. body_value copy ≡ body_value body };
+
+    /// The same body. A list of relocations and the members of a group take memory, which [`AllocError`] refuses.
+    fn clone(&self) -> Result<Self, AllocError> {
+        match self {
+            Body::Bits(section_type, content) => Ok(Body::Bits(*section_type, content)),
+            Body::NoBits(size) => Ok(Body::NoBits(*size)),
+            Body::Relocs {
+                rela,
+                target,
+                entries,
+            } => Ok(Body::Relocs {
+                rela: *rela,
+                target: *target,
+                entries: entries.clone()?,
+            }),
+            Body::Group {
+                comdat,
+                signature,
+                members,
+            } => Ok(Body::Group {
+                comdat: *comdat,
+                signature: *signature,
+                members: members.clone()?,
+            }),
+        }
+    }
+}
+
 /// A section. Its name and bytes borrow from where they were read.
 #[derive(Debug, PartialEq, Eq, Drop)]
 pub struct Section<'a> {
@@ -114,6 +145,25 @@ pub struct Section<'a> {
     pub info: Info,
     /// What the section holds.
     pub body: Body<'a>,
+}
+
+impl Clone for Section<'_> {
+    ghost is_clone = { λ section copy. section_value copy ≡ section_value section };
+
+    /// The same section. Its body takes memory where [`Body`]'s clone does, which [`AllocError`] refuses.
+    fn clone(&self) -> Result<Self, AllocError> {
+        let body = self.body.clone()?;
+        Ok(Section {
+            name: self.name,
+            flags: self.flags,
+            addr: self.addr,
+            align: self.align,
+            entsize: self.entsize,
+            link: self.link,
+            info: self.info,
+            body,
+        })
+    }
 }
 
 /// All that an object holds, not yet validated: [`Object::new`](crate::Object::new) makes an object of it.

@@ -6,10 +6,12 @@ ghost use Rattle.std.specs.List.{AllByRecursion};
 ghost use Rattle.elf_field.specs.Abi.{relocation_size as relocation_size_of};
 ghost use Rattle.elf_object_type.specs.Object.{IsRelocationTable, listed_in, symbol_reference as symbol_reference_of, table_count};
 ghost use Rattle.elf_object_type.specs.Object.{table_relocation, RelocationFits, no_relocation, table_relocations};
+ghost use Rattle.elf_object_type.specs.Left.{relocations_left};
 
 use crate::parts::prove_bytes;
 use elf_field::abi::*;
 use elf_field::{Order, Rel, Rela, get_at};
+use std::alloc::AllocError;
 use std::marker::Model;
 
 // A relocation of an object (gABI chapter 4, Relocation).
@@ -147,6 +149,19 @@ impl<'a> From<Vec<Relocation>> for Relocations<'a> {
     }
 }
 
+impl Clone for Relocations<'_> {
+    ghost is_clone = { λ relocations copy. copy ≡ relocations };
+
+    /// The same relocations. A list takes memory, which [`AllocError`] refuses; a table of a file takes none.
+    fn clone(&self) -> Result<Self, AllocError> {
+        let listed = match &self.listed {
+            Listed::List(list) => Listed::List(list.clone()?),
+            Listed::Table(table) => Listed::Table(*table),
+        };
+        Ok(Relocations { listed })
+    }
+}
+
 impl<'a> Relocations<'a> {
     /// The relocations of a table of a file in this byte order, with addends or without (`SHT_RELA`, `SHT_REL`), by its bytes. Bytes after
     /// the last whole relocation count for nothing. It takes no memory.
@@ -176,6 +191,16 @@ impl<'a> Relocations<'a> {
         match &self.listed {
             Listed::List(list) => list[j],
             Listed::Table(table) => table.entry(j),
+        }
+    }
+
+    /// The relocations in order.
+    pub fn iter(&self) -> RelocationIter<'_, 'a>
+        ensures { relocations_left result ≡ self.now }
+    {
+        RelocationIter {
+            relocations: self,
+            next: 0,
         }
     }
 
@@ -212,6 +237,45 @@ impl<'a> Relocations<'a> {
             Listed::List(list) => prove_list(list),
             Listed::Table(table) => table.prove_fits(),
         }
+    }
+}
+
+impl<'s, 'a> IntoIterator for &'s Relocations<'a> {
+    type Item = Relocation;
+
+    type IntoIter = RelocationIter<'s, 'a>;
+
+    ghost into_iter_gives = { λ relocations it. relocations_left it ≡ relocations.now };
+
+    fn into_iter(self) -> RelocationIter<'s, 'a> {
+        self.iter()
+    }
+}
+
+/// The relocations of a section, in order.
+#[derive(Drop)]
+pub struct RelocationIter<'s, 'a> {
+    relocations: &'s Relocations<'a>,
+    next: usize,
+}
+
+impl<'s, 'a> Iterator for RelocationIter<'s, 'a> {
+    ghost use Rattle.std.specs.Iterator.{YieldsFirst, item_count};
+    ghost use Rattle.elf_object_type.specs.Left.{relocations_left};
+
+    type Item = Relocation;
+
+    ghost next_gives = { YieldsFirst relocations_left };
+
+    ghost remaining = { item_count relocations_left };
+
+    fn next(&mut self) -> Option<Relocation> {
+        if self.next >= self.relocations.len() {
+            return None;
+        }
+        let relocation = self.relocations.entry(self.next);
+        self.next += 1;
+        Some(relocation)
     }
 }
 

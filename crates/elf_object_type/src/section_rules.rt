@@ -191,12 +191,7 @@ fn is_no_target(parts: &ObjectParts<'_>, target: usize) -> bool
 fn has_symbol_past(symbols: usize, entries: &Relocations<'_>) -> bool
     ensures { IsTrue result ↔ Any (λ entry. IsPast symbols entry.symbol) entries.now }
 {
-    for j in 0..entries.len() {
-        if is_past(symbols, entries.entry(j).symbol) {
-            return true;
-        }
-    }
-    false
+    entries.iter().any(|entry| is_past(symbols, entry.symbol))
 }
 
 /// Whether info, link, entry size or addends are not those of the flags and the body.
@@ -235,12 +230,7 @@ fn has_link_or_info(section: &Section<'_>) -> bool
 fn has_addend(entries: &Relocations<'_>) -> bool
     ensures { IsTrue result ↔ Any (λ entry. entry.addend ≢ pos 0) entries.now }
 {
-    for j in 0..entries.len() {
-        if entries.entry(j).addend != 0 {
-            return true;
-        }
-    }
-    false
+    entries.iter().any(|entry| entry.addend != 0)
 }
 
 /// The least position of a section that breaks the rule.

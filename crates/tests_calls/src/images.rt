@@ -6,7 +6,7 @@ use elf_image_outline::{CopyFault, copy_image, scan};
 use elf_image_sources::{JoinFault, Joined};
 use elf_image_stream::{Bytes, Fault, Source, WriteFault};
 use elf_image_type::{Image, parse, verdict, write};
-use elf_object_edit::{WithoutFault, without};
+use elf_object_edit::{WithoutFault, retain, without};
 use elf_object_file::write_object;
 use elf_object_layout::{LayoutFault, lay_out};
 use elf_object_reader::object_of;
@@ -97,6 +97,7 @@ fn on_group<W: Write>(alloc: Global, image: &Image<'_>, i: usize, out: &mut W)
 fn on_object<W: Write>(alloc: Global, object: &Object<'_>, out: &mut W) {
     say(out, "object_of", Said::Done(object.sections().len() as u64));
     say(out, "without", rest(alloc, object));
+    say(out, "retain", retained(alloc, object));
     say(out, "lay_out", laid_out(alloc, object));
     say(out, "write_object", written(alloc, object));
 }
@@ -104,6 +105,15 @@ fn on_object<W: Write>(alloc: Global, object: &Object<'_>, out: &mut W) {
 /// The object with all of its sections, made anew.
 fn rest(alloc: Global, object: &Object<'_>) -> Said {
     match without(alloc, object, &[]) {
+        Ok(rest) => Said::Done(rest.sections().len() as u64),
+        Err(WithoutFault::OutOfMemory) => Said::Memory,
+        Err(_) => Said::Refused,
+    }
+}
+
+/// The object with its sections at address 0.
+fn retained(alloc: Global, object: &Object<'_>) -> Said {
+    match retain(alloc, object, |_, section| section.addr == 0) {
         Ok(rest) => Said::Done(rest.sections().len() as u64),
         Err(WithoutFault::OutOfMemory) => Said::Memory,
         Err(_) => Said::Refused,

@@ -14,6 +14,7 @@ pub fn calls<W: Write>(alloc: Global, out: &mut W) {
         return say(out, "ObjectParts", Said::Memory);
     };
     say(out, "ObjectParts", Said::Done(0));
+    say(out, "Section::clone", copied(alloc, &parts.sections));
     say(out, "Object::new", made(alloc, parts));
 }
 
@@ -24,9 +25,21 @@ fn shared(alloc: Global) -> Said {
     }
 }
 
+/// How many sections there are in a copy of these.
+fn copied(alloc: Global, sections: &[Section<'_>]) -> Said {
+    let copies: Result<Vec<Section<'_>>, AllocError> = sections
+        .iter()
+        .map(|section| section.clone())
+        .try_collect(alloc);
+    match copies {
+        Ok(copies) => Said::Done(copies.len() as u64),
+        Err(_) => Said::Memory,
+    }
+}
+
 fn made(alloc: Global, parts: ObjectParts<'static>) -> Said {
     match Object::new(alloc, parts) {
-        Ok(object) => Said::Done(object.sections().len() as u64),
+        Ok(object) => Said::Done(object.into_parts().sections.len() as u64),
         Err(ObjectFault::OutOfMemory) => Said::Memory,
         Err(_) => Said::Refused,
     }

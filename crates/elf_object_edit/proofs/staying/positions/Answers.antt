@@ -4,7 +4,7 @@ use Rattle.std.proofs.Common.{◌≡◌, ◌+◌, ◌++◌, [], ◌∷◌, List,
 use Rattle.std.specs.List.{range_with_len}
 use Rattle.std.proofs.lemmas.List.FromFn.{length-map-range_with_len, map-range_with_len_more}
 use Rattle.elf_object_edit.specs.Without.{new_position, stays}
-use Rattle.elf_object_edit.proofs.Positions.{place_le, place_one, place_other}
+use Rattle.elf_object_type.proofs.Public.{place_le, place_one, place_other}
 use Rattle.elf_object_edit.proofs.staying.positions.Goals.{then-stays, else-stays}
 use Rattle.elf_object_edit.proofs.staying.positions.Goals as goal
 

@@ -4,7 +4,7 @@ use Rattle.elf_field.specs.Strings.{string}
 use Rattle.elf_object_layout.specs.SectionsLeftOut.{is_kept}
 use Rattle.elf_object_reader.specs.FileRules.{sections_of_file}
 use Rattle.elf_object_reader.specs.NameEnds.{name_end, section_end}
-use Rattle.elf_object_reader.proofs.Kept.{mapped_passed, taken_next}
+use Rattle.elf_object_type.proofs.Public.{mapped_passed, taken_next}
 use Rattle.elf_object_reader.proofs.NameTails.{name_in_table}
 use Rattle.elf_object_reader.proofs.name_ends.section_ends.Goals.{then-is_kept+in_ok-push, else-is_kept}
 use Rattle.elf_object_reader.proofs.name_ends.section_ends.Goals as goal

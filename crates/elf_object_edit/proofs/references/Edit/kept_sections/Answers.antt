@@ -3,7 +3,7 @@ use Rattle.elf_object_type.specs.ObjectView.{section_value}
 use Rattle.elf_object_type.specs.Object.{section_at, SectionValue}
 use Rattle.elf_object_type.specs.declared.parts.Section.{Section}
 use Rattle.elf_object_edit.specs.Without.{moved_section, stays}
-use Rattle.elf_object_edit.proofs.Positions.{mapped_next, mapped_passed}
+use Rattle.elf_object_type.proofs.Public.{mapped_next, mapped_passed}
 use Rattle.elf_object_edit.proofs.references.Edit.kept_sections.Goals.{then-stays+in_ok-section+in_ok-push, else-stays}
 use Rattle.elf_object_edit.proofs.references.Edit.kept_sections.Goals as goal
 

@@ -3,7 +3,7 @@ use Rattle.elf_object_type.specs.ObjectView.{symbol_value}
 use Rattle.elf_object_type.specs.Object.{symbol_at, SymbolValue}
 use Rattle.elf_object_type.specs.declared.parts.Symbol.{Symbol}
 use Rattle.elf_object_edit.specs.Without.{moved_symbol, stays}
-use Rattle.elf_object_edit.proofs.Positions.{mapped_next, mapped_passed}
+use Rattle.elf_object_type.proofs.Public.{mapped_next, mapped_passed}
 use Rattle.elf_object_edit.proofs.references.Edit.kept_symbols.Goals.{then-stays+in_ok-push, else-stays}
 use Rattle.elf_object_edit.proofs.references.Edit.kept_symbols.Goals as goal
 

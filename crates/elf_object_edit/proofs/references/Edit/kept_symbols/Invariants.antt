@@ -1,5 +1,5 @@
 use Rattle.std.proofs.Common.{◌≡◌, map}
-use Rattle.elf_object_edit.proofs.Positions.{passing}
+use Rattle.elf_object_type.proofs.Public.{passing}
 use Rattle.elf_object_edit.specs.Without.{moved_symbol, stays}
 use Rattle.elf_object_type.specs.Object.{symbol_at}
 use Rattle.elf_object_type.specs.ObjectView.{symbol_value}

@@ -1,6 +1,6 @@
 use Rattle.std.proofs.Common.{◌≡◌, ℕ, arith, get_or, inr, length, map, ap, ◌∙◌}
 use Rattle.elf_object_edit.specs.Without.{stays}
-use Rattle.elf_object_edit.proofs.Positions.{mapped_passed, passing, taken_next}
+use Rattle.elf_object_type.proofs.Public.{mapped_passed, passing, taken_next}
 use Rattle.elf_object_edit.proofs.staying.Staying.ends.Goals.{then-stays+in_ok-push, else-stays}
 use Rattle.elf_object_edit.proofs.staying.Staying.ends.Goals as goal
 

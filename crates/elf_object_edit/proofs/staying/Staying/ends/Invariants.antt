@@ -1,5 +1,5 @@
 use Rattle.std.proofs.Common.{◌≡◌, get_or, map}
-use Rattle.elf_object_edit.proofs.Positions.{passing}
+use Rattle.elf_object_type.proofs.Public.{passing}
 use Rattle.elf_object_edit.specs.Without.{stays}
 use Rattle.elf_object_edit.proofs.staying.Staying.ends.Given as goal
 

@@ -1,8 +1,8 @@
-use Rattle.std.proofs.Common.{◌+◌, ◌<◌, List, get_or, length, inl, inr, ap, ◌∙◌, sym, arith}
+use Rattle.std.proofs.Common.{◌+◌, ◌<◌, List, false, get_or, length, inl, inr, ap, ◌∙◌, sym, arith}
 use Rattle.std.proofs.lemmas.Bool.{cases_lt}
-use Rattle.std.proofs.lemmas.List.{get_or_default}
-use Rattle.elf_object_edit.specs.Without.{new_position}
-use Rattle.elf_object_edit.proofs.Positions.{position_get, position_past}
+use Rattle.std.proofs.lemmas.List.{get_or_default, get_or_past}
+use Rattle.elf_object_edit.specs.Without.{new_position, stays}
+use Rattle.elf_object_type.proofs.Public.{place_get, place_past}
 use Rattle.elf_object_edit.proofs.staying.Staying.position.Goals as goal
 
 pub returns : goal.returns
@@ -13,8 +13,8 @@ returns c =
     let long = own.long in
     let within : m < length marks + 1 = omega arith in
     c.index.ensures ∙ sym (get_or_default c.args.self.now.positions.items m 0 c.index.result.now (omega arith)) ∙
-    ap (λ (xs : List _). get_or xs m 0) own.right ∙ position_get marks m within ∙
+    ap (λ (xs : List _). get_or xs m 0) own.right ∙ place_get (stays marks) (length marks) m within ∙
     elim (cases_lt c.args.p (length marks)) [
       | inl there ↦ ap (new_position marks) (omega arith)
-      | inr past ↦ ap (new_position marks) (omega arith) ∙ sym (position_past marks c.args.p past)
+      | inr past ↦ ap (new_position marks) (omega arith) ∙ sym (place_past (stays marks) (length marks) c.args.p (λ k. get_or_past marks k false) past)
     ]

@@ -1,5 +1,5 @@
 -- One pass of the loop adds the position of one more section, which is the number of kept sections so far. That number is at most the index
--- (`position_le`), so it does not overflow. After the last section the list has all positions.
+-- (`place_le`), so it does not overflow. After the last section the list has all positions.
 use Rattle.std.proofs.Common.{◌≡◌, ◌+◌, ◌++◌, [], ◌∷◌, List, ℕ, length, map, ap, ◌∙◌, sym, arith, zero-add}
 use Rattle.std.specs.List.{range_with_len}
 use Rattle.std.proofs.lemmas.List.FromFn.{length-map-range_with_len, map-range_with_len_more}
@@ -7,13 +7,13 @@ use Rattle.elf_object_layout.specs.SectionsLeftOut.{is_kept}
 use Rattle.elf_object_reader.specs.Denotes.{position_of}
 use Rattle.elf_table_symbols.specs.Sections.{count}
 use Rattle.elf_object_reader.specs.FileRules.{sections_of_file}
-use Rattle.elf_object_reader.proofs.Kept.{count_kept, count_other, position_le}
+use Rattle.elf_object_type.proofs.Public.{place_le, place_one, place_other}
 use Rattle.elf_object_reader.proofs.object_file.ObjectFile.positions.Goals.{then-is_kept, else-is_kept}
 use Rattle.elf_object_reader.proofs.object_file.ObjectFile.positions.Goals as goal
 
 pub overflow_add-kept : goal.overflow_add-kept
 overflow_add-kept c =
-    let few = position_le c.args.self.now.left (sections_of_file c.args.self.now) c.loop-i.i in
+    let few = place_le (is_kept c.args.self.now.left (sections_of_file c.args.self.now)) c.loop-i.i in
     omega arith
 
 pub loop-i-preserved : goal.loop-i-preserved
@@ -29,9 +29,9 @@ loop-i-preserved c =
       kept = elim c.if-is_kept.branch [
         | then-is_kept w ↦
             w.kept-is ∙ ap (λ (k : ℕ). k + 1) c.loop-i.invariant.kept ∙
-            sym (count_kept (is_kept left f) i (rw c.is_kept.ensures.value at w.if-is_kept.true))
+            sym (place_one (is_kept left f) i (rw c.is_kept.ensures.value at w.if-is_kept.true))
         | else-is_kept w ↦
-            w.kept-is ∙ c.loop-i.invariant.kept ∙ sym (count_other (is_kept left f) i (rw c.is_kept.ensures.value at w.if-is_kept.false))
+            w.kept-is ∙ c.loop-i.invariant.kept ∙ sym (place_other (is_kept left f) i (rw c.is_kept.ensures.value at w.if-is_kept.false))
       ];
     }
 

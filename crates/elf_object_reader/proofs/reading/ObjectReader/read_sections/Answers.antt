@@ -4,7 +4,7 @@ use Rattle.elf_object_reader.specs.Denotes.{section_denoted}
 use Rattle.elf_object_reader.specs.FileRules.{sections_of_file}
 use Rattle.elf_object_type.specs.ObjectView.{section_value}
 use Rattle.elf_object_type.specs.declared.parts.Section.{Section}
-use Rattle.elf_object_reader.proofs.Kept.{mapped_next, mapped_passed}
+use Rattle.elf_object_type.proofs.Public.{mapped_next, mapped_passed}
 use Rattle.elf_object_reader.proofs.reading.ObjectReader.read_sections.Goals.{then-is_kept+in_ok-section+in_ok-push, else-is_kept}
 use Rattle.elf_object_reader.proofs.reading.ObjectReader.read_sections.Goals as goal
 

@@ -1,15 +1,15 @@
--- What stays of a list of marks, and its new positions. A position that stays joins the list and raises the next new position by one; any
--- other changes nothing. A new position is at most the position, and each one past the marks has the last one, both by induction.
+-- The positions that pass a test, in order. One that passes joins the list and raises the place of the next one by one; any other changes
+-- nothing. So the place of a position, which is how many before it pass, is at most the position. By induction on n: the list of those
+-- below n has each at its place, and nothing else. So places of positions that pass ascend, and no two are equal.
 use Rattle.std.proofs.Common.{◌≡◌, ℕ, ◌<◌, Bool, true, false, inl, inr, refl, ◌+◌, ◌-◌, ◌≤◌, ◌++◌, [], zero, suc, List, ◌∷◌, get_or, length}
 use Rattle.std.proofs.Common.{map, sym, ap, subst, ◌⊎◌, ◌∙◌, arith, length-append, zero-add}
 use Rattle.std.specs.Prelude.{filter}
 use Rattle.std.proofs.lemmas.Bool.{cases_lt}
 use Rattle.std.specs.List.{range_with_len}
-use Rattle.std.proofs.lemmas.List.{append-nil, map-append, map-id, get_or_append_left, get_or_past}
+use Rattle.std.proofs.lemmas.List.{append-nil, map-append, map-id, get_or_append_left}
 use Rattle.std.proofs.lemmas.List.Elements.{filter-append}
 use Rattle.std.proofs.lemmas.List.FromFn.{get_or-map-range_with_len, map-range_with_len_more}
 use Rattle.std.proofs.Math.Seq.{get_or-append_seam}
-use Rattle.elf_object_edit.specs.Without.{new_position, stays}
 
 -- the positions up to i + 1 are those up to i, and i
 pub range_more : (i : ℕ) → range_with_len 0 (i + 1) ≡ range_with_len 0 i ++ i ∷ []
@@ -31,10 +31,6 @@ pub cases_bool : (b : Bool) → (b ≡ true) ⊎ (b ≡ false)
 cases_bool true = inl refl
 cases_bool false = inr refl
 
-pub true_unless : (b : Bool) → (b ≡ false → ⊥) → b ≡ true
-true_unless true never = refl
-true_unless false never = absurd (never refl)
-
 -- one more position
 pub passing_one : (p : ℕ → Bool) (i : ℕ) → p i ≡ true → passing p (i + 1) ≡ passing p i ++ i ∷ []
 passing_one p i is =
@@ -55,7 +51,7 @@ place_other p i is = ap (λ (xs : List ℕ). length xs) (passing_other p i is)
 next_is : (i : ℕ) → i + 1 ≡ suc i
 next_is i = omega arith
 
--- ---- new positions
+-- ---- places
 
 pub place_le : (p : ℕ → Bool) (i : ℕ) → place p i ≤ i
 place_le p zero = omega arith
@@ -66,28 +62,21 @@ place_le p (suc i) = elim (cases_bool (p i)) [
       subst (λ (n : ℕ). place p n ≤ n) (next_is i) (omega (arith, place_other p i is)))
 ]
 
--- past the marks nothing stays
-past_more : (marks : List Bool) (d : ℕ) → new_position marks (length marks + d) ≡ new_position marks (length marks)
-past_more marks zero = ap (new_position marks) (omega arith)
-past_more marks (suc d) =
-    ap (new_position marks) (omega arith) ∙
-    place_other (stays marks) (length marks + d) (get_or_past marks (length marks + d) false (omega arith)) ∙ past_more marks d
+-- where none passes from n on, each from there on has the place of n
+past_more : (p : ℕ → Bool) (n d : ℕ) → ((j : ℕ) → n ≤ j → p j ≡ false) → place p (n + d) ≡ place p n
+past_more p n zero none = ap (place p) (omega arith)
+past_more p n (suc d) none =
+    ap (place p) (omega arith) ∙ place_other p (n + d) (none (n + d) (omega arith)) ∙ past_more p n d none
 
-pub position_past : (marks : List Bool) (p : ℕ) → length marks ≤ p → new_position marks p ≡ new_position marks (length marks)
-position_past marks p past =
-    (let same : p ≡ length marks + (p - length marks) = omega arith in ap (new_position marks) same ∙ past_more marks (p - length marks))
+pub place_past : (p : ℕ → Bool) (n k : ℕ) → ((j : ℕ) → n ≤ j → p j ≡ false) → n ≤ k → place p k ≡ place p n
+place_past p n k none past =
+    (let same : k ≡ n + (k - n) = omega arith in ap (place p) same ∙ past_more p n (k - n) none)
 
-pub position_get : (marks : List Bool) (p : ℕ) → p < length marks + 1 →
-    get_or (map (new_position marks) (range_with_len 0 (length marks + 1))) p 0 ≡ new_position marks p
-position_get marks p lt = get_or-map-range_with_len (new_position marks) 0 (length marks + 1) p p 0 lt (zero-add p)
+-- a place in the list of all places up to n
+pub place_get : (p : ℕ → Bool) (n k : ℕ) → k < n + 1 → get_or (map (place p) (range_with_len 0 (n + 1))) k 0 ≡ place p k
+place_get p n k lt = get_or-map-range_with_len (place p) 0 (n + 1) k k 0 lt (zero-add k)
 
-pub stays_there : (marks : List Bool) (p : ℕ) → stays marks p ≡ true → p < length marks
-stays_there marks p is = elim (cases_lt p (length marks)) [
-  | inl below ↦ below
-  | inr past ↦ (let both : true ≡ false = sym is ∙ get_or_past marks p false past in cc)
-]
-
--- ---- what is made of each that stays
+-- ---- what is made of each that passes
 
 pub mapped_next : {X V : Type 0} (view : X → V) (D : ℕ → V) (p : ℕ → Bool) (i : ℕ) (items : List X) (x : X) →
     map view items ≡ map D (passing p i) → view x ≡ D i → p i ≡ true → map view (items ++ x ∷ []) ≡ map D (passing p (i + 1))
@@ -105,7 +94,7 @@ taken_next D p i items x done same is =
 pub mapped_passed : {V : Type 0} (D : ℕ → V) (p : ℕ → Bool) (i : ℕ) → p i ≡ false → map D (passing p i) ≡ map D (passing p (i + 1))
 mapped_passed D p i is = ap (λ (is : List ℕ). map D is) (sym (passing_other p i is))
 
--- ---- a position that stays is at its new position in the list
+-- ---- a position that passes is at its place in the list
 
 pub record StandsAt (p : ℕ → Bool) (n i : ℕ) : Type 0 where
   pub below : place p i < place p n
@@ -142,7 +131,7 @@ stands_at p (suc n) i lt is = subst (λ (k : ℕ). StandsAt p k i) (next_is n) (
   | inr above ↦ (let last : n ≡ i = omega arith in subst (λ (k : ℕ). StandsAt p (n + 1) k) last (stands_last p n (ap p last ∙ is)))
 ])
 
--- so new positions keep the order, and no two positions that stay have one
+-- so places keep the order, and no two positions that pass have one
 pub places_ascend : (p : ℕ → Bool) (i j : ℕ) → i < j → p i ≡ true → place p i < place p j
 places_ascend p i j lt is = (stands_at p j i lt is).below
 
@@ -155,7 +144,7 @@ one_place p i j is js same = elim (cases_lt i j) [
   ]
 ]
 
--- what is in the list is a position that stays
+-- what is in the list is a position that passes
 pub record IsListed (p : ℕ → Bool) (n q i : ℕ) : Type 0 where
   pub there : i < n
   pub passes : p i ≡ true
