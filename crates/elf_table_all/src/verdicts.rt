@@ -1,7 +1,7 @@
 //! The verdicts on the tables of an image: each symbol table is validated once, and its verdict serves every table that links to it.
 ghost use Rattle.std.specs.Prelude.{◌≡◌, ◌≢◌, ℕ, IfOk, OnOk, length, ◌<◌, Some};
 ghost use Rattle.elf_table_symbols.specs.Symbols.{noted, symbol_table_rules, AreSymbolVerdicts};
-ghost use Rattle.elf_table_symbols.specs.Sections.{sections_of, section, kind_of};
+ghost use Rattle.elf_table_symbols.specs.Sections.{count, sections_of, sections_seen, section, kind_of};
 ghost use Rattle.elf_table_all.specs.Tables.{AreAllIndexTables, index_tables_at, table_rules, AreVerdicts, IsVerdictOf};
 ghost use Rattle.elf_image_rules.specs.Rows.{fault_of, FirstIn};
 ghost use Rattle.elf_table_symbols.specs.declared.table_section.TableKind.TheVariants as kind;
@@ -16,7 +16,8 @@ use elf_table_lists::{
     validate_relocation_section,
 };
 use elf_table_symbols::{
-    IndexTables, SymbolVerdicts, TableKind, TableSection, Verdicts, validate_symbol_table,
+    IndexTables, SectionsOf, SymbolVerdicts, TableKind, TableSection, Verdicts,
+    validate_symbol_table,
 };
 use std::alloc::{AllocError, Global};
 use std::collections::BTreeMap;
@@ -82,7 +83,10 @@ pub(crate) fn all_verdicts(
     let mut hashes = NameHashes::new(alloc, image);
     let mut verdicts = Verdicts::new(alloc);
     for i in 0..image.section_count() {
-        let table = TableSection { image, index: i };
+        let table = TableSection {
+            sections: SectionsOf::Image(image),
+            index: i,
+        };
         verdicts.push(table_verdict(alloc, table, &symbols, &mut hashes)?)?;
     }
     Ok(verdicts)
@@ -100,7 +104,13 @@ fn symbol_verdicts(
 {
     let mut verdicts = Verdicts::new(alloc);
     for i in 0..image.section_count() {
-        verdicts.push(symbol_verdict(TableSection { image, index: i }, index_tables))?;
+        verdicts.push(symbol_verdict(
+            TableSection {
+                sections: SectionsOf::Image(image),
+                index: i,
+            },
+            index_tables,
+        ))?;
     }
     Ok(verdicts)
 }
@@ -110,8 +120,8 @@ fn symbol_verdict(
     table: TableSection<'_, '_>,
     index_tables: &AllIndexTables,
 ) -> Result<(), Broken<u64>>
-    requires { AreAllIndexTables (sections_of table.image.now) (length table.image.now.sections) index_tables.now }
-    ensures { let f = sections_of table.entry.image.now in
+    requires { AreAllIndexTables (sections_seen table.sections) (count (sections_seen table.sections)) index_tables.now }
+    ensures { let f = sections_seen table.entry.sections in
         kind_of (section f table.entry.index).sh_type ≡ Some kind.SymbolTable →
         FirstIn (symbol_table_rules f table.entry.index) (fault_of result) }
 {
@@ -129,10 +139,10 @@ fn table_verdict(
     symbols: &Verdicts,
     hashes: &mut NameHashes<'_, '_>,
 ) -> Result<Result<(), Broken<u64>>, AllocError>
-    requires symbols { AreSymbolVerdicts (sections_of table.image.now) (length table.image.now.sections) symbols.now }
-    requires hashes { hashes.old ≡ sections_of table.image.now }
+    requires symbols { AreSymbolVerdicts (sections_seen table.sections) (count (sections_seen table.sections)) symbols.now }
+    requires hashes { hashes.old ≡ sections_seen table.sections }
     ensures verdict { IfOk result
-        (λ verdict. FirstIn (table_rules (sections_of table.entry.image.now) table.entry.index) (fault_of verdict)) }
+        (λ verdict. FirstIn (table_rules (sections_seen table.entry.sections) table.entry.index) (fault_of verdict)) }
     ensures hashes { hashes.new ≡ hashes.old }
 {
     let known = SymbolVerdicts::All(symbols);

@@ -16,7 +16,7 @@ use crate::name_hashes::NameHashes;
 use elf_field::Order;
 use elf_image_stream::Fault;
 use elf_image_type::Image;
-use elf_table_symbols::{LinkedTable, SymbolVerdicts, TableSection};
+use elf_table_symbols::{LinkedTable, SectionsOf, SymbolVerdicts, TableSection};
 use std::alloc::Global;
 use std::marker::Model;
 
@@ -59,7 +59,10 @@ impl<'a> Hash<'a> {
             (λ f. IsOnlyValidatedAfter (hash_table_front f i) (hash_table_rules f i) (λ hash. hash ≡ hash_of_section f i) result) }
     {
         image.prove_stands();
-        let table = TableSection { image, index: i };
+        let table = TableSection {
+            sections: SectionsOf::Image(image),
+            index: i,
+        };
         let mut hashes = NameHashes::new(alloc, image);
         validate_hash_table(alloc, table, SymbolVerdicts::Unknown, &mut hashes)?;
         Ok(sound_hash(image, i))
@@ -130,7 +133,10 @@ pub fn sound_hash<'a>(image: &Image<'a>, i: usize) -> Hash<'a>
     requires sound { FirstIn (hash_table_rules (sections_of image.now) i) None }
     ensures { result ≡ hash_of_section (sections_of image.now) i }
 {
-    let table = TableSection { image, index: i };
+    let table = TableSection {
+        sections: SectionsOf::Image(image),
+        index: i,
+    };
     let parts = HashParts::new(LinkedTable { table });
     Hash {
         words: parts.words,

@@ -34,7 +34,7 @@ impl<'a> HashParts<'a> {
     ghost use Rattle.std.specs.Prelude.{None};
     ghost use Rattle.elf_image_rules.specs.Rows.{FirstIn};
     ghost use Rattle.elf_table_symbols.specs.Sections.{own_rules};
-    ghost use Rattle.elf_table_symbols.specs.Sections.{content, section, sections_of};
+    ghost use Rattle.elf_table_symbols.specs.Sections.{content, section, sections_seen};
     ghost use Rattle.elf_table_symbols.specs.Symbols.{symbol_table_rules};
     ghost use Rattle.elf_table_hash.specs.HashRules.{hash_parts, hash_parts_value};
     ghost use Rattle.elf_table_hash.specs.HashTable.{name_of};
@@ -42,18 +42,18 @@ impl<'a> HashParts<'a> {
 
     /// The parts of a hash table whose section header breaks no rule, as the symbol table that it links to.
     pub(crate) fn new(linked: LinkedTable<'_, 'a>) -> HashParts<'a>
-        requires own { FirstIn (own_rules TableKind.HashTable (sections_of linked.table.image.now) linked.table.index) None }
-        requires symbols { let f = sections_of linked.table.image.now in
+        requires own { FirstIn (own_rules TableKind.HashTable (sections_seen linked.table.sections) linked.table.index) None }
+        requires symbols { let f = sections_seen linked.table.sections in
             FirstIn (symbol_table_rules f (section f linked.table.index).sh_link) None }
-        ensures value { hash_parts_value result ≡ hash_parts (sections_of linked.entry.table.image.now) linked.entry.table.index }
-        ensures strings { result.strings.now ≡ content (sections_of linked.entry.table.image.now) result.strings_index }
+        ensures value { hash_parts_value result ≡ hash_parts (sections_seen linked.entry.table.sections) linked.entry.table.index }
+        ensures strings { result.strings.now ≡ content (sections_seen linked.entry.table.sections) result.strings_index }
     {
         let table = linked.table;
         let section = table.header();
         let order = table.order();
         let symbols = linked.linked_content();
         let strings_index = linked.linked_header().sh_link;
-        let strings = table.image.content(strings_index as usize);
+        let strings = table.sections.content(strings_index as usize);
         HashParts {
             header: table.header_offset(),
             size: section.sh_size,

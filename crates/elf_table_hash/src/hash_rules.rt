@@ -7,7 +7,7 @@ ghost use Rattle.elf_table_hash.specs.HashRules.{hash_table_front, hash_table_ru
 ghost use Rattle.elf_table_hash.specs.HashTable.{AreHashWords, bucket, bucket_of, hash_of, name_of, nbucket, nchain};
 ghost use Rattle.elf_table_symbols.specs.Verdicts.{IsTestedAfter};
 ghost use Rattle.elf_table_symbols.specs.Symbols.{AreKnown, symbol_table_rules};
-ghost use Rattle.elf_table_symbols.specs.Sections.{content, own_rules, section, sections_of};
+ghost use Rattle.elf_table_symbols.specs.Sections.{content, own_rules, section, sections_seen};
 ghost use Rattle.elf_table_hash.specs.ChainDepths.{IsDepthKnown};
 
 use crate::hash_building::elf_hash;
@@ -75,9 +75,9 @@ pub fn validate_hash_table(
     symbols: SymbolVerdicts<'_>,
     hashes: &mut NameHashes<'_, '_>,
 ) -> Result<(), BytesFault>
-    requires known { AreKnown (sections_of table.image.now) symbols }
-    requires own_hashes { hashes.old ≡ sections_of table.image.now }
-    ensures validated { let f = sections_of table.entry.image.now in
+    requires known { AreKnown (sections_seen table.sections) symbols }
+    requires own_hashes { hashes.old ≡ sections_seen table.sections }
+    ensures validated { let f = sections_seen table.entry.sections in
         IsTestedAfter (hash_table_front f table.entry.index) (hash_table_rules f table.entry.index) (λ _. ⊤) result }
     ensures image { hashes.new ≡ hashes.old }
 {
@@ -95,11 +95,11 @@ fn validate_hash(
     linked: LinkedTable<'_, '_>,
     hashes: &mut NameHashes<'_, '_>,
 ) -> Result<(), BytesFault>
-    requires own { FirstIn (own_rules TableKind.HashTable (sections_of linked.table.image.now) linked.table.index) None }
-    requires symbols { let f = sections_of linked.table.image.now in
+    requires own { FirstIn (own_rules TableKind.HashTable (sections_seen linked.table.sections) linked.table.index) None }
+    requires symbols { let f = sections_seen linked.table.sections in
         FirstIn (symbol_table_rules f (section f linked.table.index).sh_link) None }
-    requires own_hashes { hashes.old ≡ sections_of linked.table.image.now }
-    ensures validated { let f = sections_of linked.entry.table.image.now in let i = linked.entry.table.index in
+    requires own_hashes { hashes.old ≡ sections_seen linked.table.sections }
+    ensures validated { let f = sections_seen linked.entry.table.sections in let i = linked.entry.table.index in
         IsTestedAfter (word_rules (hash_parts f i)) (hash_rules f i) (λ _. ⊤) result }
     ensures image { hashes.new ≡ hashes.old }
 {

@@ -1,5 +1,5 @@
 -- Section groups, as values. (gABI chapter 4, Section Groups.)
-use Rattle.std.specs.Prelude.{ℕ, ◌+◌, ◌-◌, ◌/◌, ◌<◌, List, length, map, ◌≡◌, ◌≢◌, ◌*◌, ◌≤◌, ◌⊎◌, [], ◌∷◌, ◌++◌, bit_and}
+use Rattle.std.specs.Prelude.{ℕ, ◌+◌, ◌-◌, ◌/◌, ◌<◌, List, length, map, ◌≡◌, ◌≢◌, ◌*◌, ◌≤◌, ◌⊎◌, [], ◌∷◌, ◌++◌, bit_and, get_or}
 use Rattle.std.specs.List.{range_with_len}
 use Rattle.elf_field.specs.Abi.{WORD_SIZE, GRP_COMDAT, SHF_GROUP, SH_INFO_AT, SH_SIZE_AT}
 use Rattle.elf_field.specs.declared.number.Order.{Order}
@@ -71,6 +71,10 @@ abbrev pub IsWrongMember : Sections → ℕ → ℕ → Type 0
 IsWrongMember f i j =
     let m = member (order f) (content f i) j in
     IsUnfit f i m ⊎ IsNamedBefore (order f) (content f i) j m
+
+-- marks of members, none of which is above `end`
+abbrev pub AreMarksUpTo : ℕ → List ℕ → Type 0
+AreMarksUpTo end marks = (m : ℕ) → get_or marks m 0 ≤ end
 
 -- rule 58: a member can't be in the group, or is in it twice
 abbrev pub wrong_member : Sections → ℕ → Row ℕ

@@ -7,7 +7,7 @@ ghost use Rattle.elf_table_lists.specs.Dynamic.{no_dynamic_entry};
 ghost use Rattle.elf_extent.specs.Extent.{IsLowest};
 ghost use Rattle.elf_image_rules.specs.Rows.{fault_of, AtEntry, FirstIn};
 ghost use Rattle.elf_image_rules.specs.Rules.{MAX_LEN};
-ghost use Rattle.elf_table_symbols.specs.Sections.{sections_of};
+ghost use Rattle.elf_table_symbols.specs.Sections.{sections_of, sections_seen};
 ghost use Rattle.elf_table_symbols.specs.Verdicts.{IsValidated, IsOnlyValidated, OfItsFile};
 ghost use Rattle.elf_table_lists.specs.Left.{dynamic_left};
 
@@ -18,7 +18,7 @@ use elf_image_stream::Fault;
 use elf_image_type::Image;
 use elf_table_symbols::rules::*;
 use elf_table_symbols::{
-    LinkedTable, TableKind, TableSection, validate_linked_strings, validate_own_rules,
+    LinkedTable, SectionsOf, TableKind, TableSection, validate_linked_strings, validate_own_rules,
 };
 use std::marker::Model;
 
@@ -67,7 +67,7 @@ pub fn is_string_tag(tag: i64) -> bool
 /// string table that the section links to, then 63 and 64.
 #[tactic(auto, unfolding(crate::specs::Dynamic::dynamic_section_rules))]
 pub fn validate_dynamic_section(table: TableSection<'_, '_>) -> Result<(), Broken<u64>>
-    ensures { FirstIn (dynamic_section_rules (sections_of table.entry.image.now) table.entry.index) (fault_of result) }
+    ensures { FirstIn (dynamic_section_rules (sections_seen table.entry.sections) table.entry.index) (fault_of result) }
 {
     validate_own_rules(table, TableKind::DynamicArray)?;
     let linked = LinkedTable { table };
@@ -78,7 +78,7 @@ pub fn validate_dynamic_section(table: TableSection<'_, '_>) -> Result<(), Broke
 /// Rules 63 and 64 of a dynamic section.
 #[tactic(auto, unfolding(crate::specs::Dynamic::dynamic_rules))]
 fn validate_dynamic_array(linked: LinkedTable<'_, '_>) -> Result<(), Broken<u64>>
-    ensures { FirstIn (dynamic_rules (sections_of linked.entry.table.image.now) linked.entry.table.index) (fault_of result) }
+    ensures { FirstIn (dynamic_rules (sections_seen linked.entry.table.sections) linked.entry.table.index) (fault_of result) }
 {
     let order = linked.table.order();
     let content = linked.table.content();
@@ -154,7 +154,10 @@ impl<'a> Dynamic<'a> {
             (λ f. IsOnlyValidated (dynamic_section_rules f i) (λ dynamic. dynamic ≡ dynamic_array_of f i) result) }
     {
         image.prove_stands();
-        validate_dynamic_section(TableSection { image, index: i })?;
+        validate_dynamic_section(TableSection {
+            sections: SectionsOf::Image(image),
+            index: i,
+        })?;
         Ok(sound_dynamic(image, i))
     }
 
@@ -190,7 +193,10 @@ pub fn sound_dynamic<'a>(image: &Image<'a>, i: usize) -> Dynamic<'a>
     requires sound { FirstIn (dynamic_section_rules (sections_of image.now) i) None }
     ensures { result ≡ dynamic_array_of (sections_of image.now) i }
 {
-    let section = TableSection { image, index: i };
+    let section = TableSection {
+        sections: SectionsOf::Image(image),
+        index: i,
+    };
     let order = section.order();
     let table = section.content();
     let end = first_null_entry(order, table);

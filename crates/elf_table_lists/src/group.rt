@@ -4,7 +4,7 @@ ghost use Rattle.elf_image_stream.specs.declared.fault.BytesFault.TheVariants.{O
 ghost use Rattle.elf_image_stream.specs.declared.fault.Fault.TheVariants.{OutOfMemory};
 ghost use Rattle.elf_image_rules.specs.Rows.{FirstIn, fault_of};
 ghost use Rattle.elf_table_symbols.specs.Verdicts.{IsTestedAfter, IsValidatedAfter, IsOnlyValidatedAfter, OfItsFile};
-ghost use Rattle.elf_table_symbols.specs.Sections.{content, order, sections_of, Below, section};
+ghost use Rattle.elf_table_symbols.specs.Sections.{content, order, sections_of, sections_seen, Below, section};
 ghost use Rattle.elf_table_lists.specs.Groups.{group_section_front, group_section_rules, MembersAscend, group_of, IsUnfit, IsWrongMember};
 ghost use Rattle.elf_table_lists.specs.Groups.{group_front_rules, group_rules, member as member_of, member_count as member_count_of};
 ghost use Rattle.elf_table_lists.specs.Left.{members_left};
@@ -18,7 +18,7 @@ use elf_image_stream::{BytesFault, Fault};
 use elf_image_type::Image;
 use elf_table_symbols::rules::*;
 use elf_table_symbols::{
-    LinkedTable, SymbolVerdicts, TableKind, TableSection, validate_own_rules, word,
+    LinkedTable, SectionsOf, SymbolVerdicts, TableKind, TableSection, validate_own_rules, word,
 };
 use std::alloc::{AllocError, Global};
 use std::collections::BTreeSet;
@@ -65,7 +65,10 @@ impl<'a> Group<'a> {
             IfErr result (λ fault. fault ≡ OutOfMemory → ¬ MembersAscend (order f) (content f i)) }
     {
         image.prove_stands();
-        let section = TableSection { image, index: i };
+        let section = TableSection {
+            sections: SectionsOf::Image(image),
+            index: i,
+        };
         validate_group_section(alloc, section, SymbolVerdicts::Unknown)?;
         Ok(sound_group(image, i))
     }
@@ -116,7 +119,10 @@ pub fn sound_group<'a>(image: &Image<'a>, i: usize) -> Group<'a>
     requires sound { FirstIn (group_section_rules (sections_of image.now) i) None }
     ensures { result ≡ group_of (sections_of image.now) i }
 {
-    let section = TableSection { image, index: i };
+    let section = TableSection {
+        sections: SectionsOf::Image(image),
+        index: i,
+    };
     Group {
         order: section.order(),
         signature: section.header().sh_info,
@@ -177,10 +183,10 @@ pub fn validate_group_section(
     table: TableSection<'_, '_>,
     symbols: SymbolVerdicts<'_>,
 ) -> Result<(), BytesFault>
-    requires { AreKnown (sections_of table.image.now) symbols }
-    ensures validated { let f = sections_of table.entry.image.now in
+    requires { AreKnown (sections_seen table.sections) symbols }
+    ensures validated { let f = sections_seen table.entry.sections in
         IsTestedAfter (group_section_front f table.entry.index) (group_section_rules f table.entry.index) (λ _. Unit {0}) result }
-    ensures memory { let f = sections_of table.entry.image.now in
+    ensures memory { let f = sections_seen table.entry.sections in
         IfErr result (λ fault. fault ≡ NoRoom → ¬ MembersAscend (order f) (content f table.entry.index)) }
 {
     validate_own_rules(table, TableKind::SectionGroup)?;
@@ -191,11 +197,11 @@ pub fn validate_group_section(
 
 /// Rules 55 to 58 of a group whose own rules are kept.
 fn validate_group(alloc: Global, linked: LinkedTable<'_, '_>) -> Result<(), BytesFault>
-    requires typed { (section (sections_of linked.table.image.now) linked.table.index).sh_type ≡ SHT_GROUP }
-    requires sized { (section (sections_of linked.table.image.now) linked.table.index).sh_size % WORD_SIZE ≡ 0 }
-    ensures validated { let f = sections_of linked.entry.table.image.now in
+    requires typed { (section (sections_seen linked.table.sections) linked.table.index).sh_type ≡ SHT_GROUP }
+    requires sized { (section (sections_seen linked.table.sections) linked.table.index).sh_size % WORD_SIZE ≡ 0 }
+    ensures validated { let f = sections_seen linked.entry.table.sections in
         IsTestedAfter (group_front_rules f linked.entry.table.index) (group_rules f linked.entry.table.index) (λ _. Unit {0}) result }
-    ensures memory { let f = sections_of linked.entry.table.image.now in
+    ensures memory { let f = sections_seen linked.entry.table.sections in
         IfErr result (λ fault. fault ≡ NoRoom → ¬ MembersAscend (order f) (content f linked.entry.table.index)) }
 {
     validate_group_front(linked)?;
@@ -207,20 +213,20 @@ fn validate_group(alloc: Global, linked: LinkedTable<'_, '_>) -> Result<(), Byte
 }
 
 /// The offset in the file of member `j` of a group.
-fn member_offset(table: TableSection<'_, '_>, j: usize) -> u64
-    requires { j < member_count_of (content (sections_of table.image.now) table.index) }
-    ensures { result ≡ (section (sections_of table.entry.image.now) table.entry.index).sh_offset + WORD_SIZE * (j + 1) }
+pub(crate) fn member_offset(table: TableSection<'_, '_>, j: usize) -> u64
+    requires { j < member_count_of (content (sections_seen table.sections) table.index) }
+    ensures { result ≡ (section (sections_seen table.entry.sections) table.entry.index).sh_offset + WORD_SIZE * (j + 1) }
 {
-    table.image.prove_content_inside(table.index);
+    table.sections.prove_content_inside(table.index);
     table.header().sh_offset + WORD_SIZE * (j as u64 + 1)
 }
 
 /// Rules 55 to 57 of a group.
 #[tactic(auto, unfolding(crate::specs::Groups::group_front_rules))]
-fn validate_group_front(linked: LinkedTable<'_, '_>) -> Result<(), Broken<u64>>
-    requires typed { (section (sections_of linked.table.image.now) linked.table.index).sh_type ≡ SHT_GROUP }
-    requires sized { (section (sections_of linked.table.image.now) linked.table.index).sh_size % WORD_SIZE ≡ 0 }
-    ensures { FirstIn (group_front_rules (sections_of linked.entry.table.image.now) linked.entry.table.index) (fault_of result) }
+pub(crate) fn validate_group_front(linked: LinkedTable<'_, '_>) -> Result<(), Broken<u64>>
+    requires typed { (section (sections_seen linked.table.sections) linked.table.index).sh_type ≡ SHT_GROUP }
+    requires sized { (section (sections_seen linked.table.sections) linked.table.index).sh_size % WORD_SIZE ≡ 0 }
+    ensures { FirstIn (group_front_rules (sections_seen linked.entry.table.sections) linked.entry.table.index) (fault_of result) }
 {
     let table = linked.table;
     let section = table.header();
@@ -247,9 +253,9 @@ fn lowest_wrong_member(
     alloc: Global,
     table: TableSection<'_, '_>,
 ) -> Result<Option<usize>, AllocError>
-    ensures found { let f = sections_of table.entry.image.now in
+    ensures found { let f = sections_seen table.entry.sections in
         IfOk result (λ found. IsLowest (Below (member_count_of (content f table.entry.index)) (IsWrongMember f table.entry.index)) found) }
-    ensures memory { let f = sections_of table.entry.image.now in OnErr result (¬ MembersAscend (order f) (content f table.entry.index)) }
+    ensures memory { let f = sections_seen table.entry.sections in OnErr result (¬ MembersAscend (order f) (content f table.entry.index)) }
 {
     let words = table.content();
     if is_ascending(table.order(), words) {
@@ -260,7 +266,7 @@ fn lowest_wrong_member(
 
 /// The lowest member of a group that can't be in it.
 fn lowest_unfit(table: TableSection<'_, '_>) -> Option<usize>
-    ensures { let f = sections_of table.entry.image.now in let words = content f table.entry.index in
+    ensures { let f = sections_seen table.entry.sections in let words = content f table.entry.index in
         IsLowest (Below (member_count_of words) (λ j. IsUnfit f table.entry.index (member_of (order f) words j))) result }
 {
     let order = table.order();
@@ -278,7 +284,7 @@ fn lowest_unfit_or_repeated(
     alloc: Global,
     table: TableSection<'_, '_>,
 ) -> Result<Option<usize>, AllocError>
-    ensures { let f = sections_of table.entry.image.now in
+    ensures { let f = sections_seen table.entry.sections in
         IfOk result (λ found. IsLowest (Below (member_count_of (content f table.entry.index)) (IsWrongMember f table.entry.index)) found) }
 {
     let order = table.order();
@@ -294,12 +300,14 @@ fn lowest_unfit_or_repeated(
 }
 
 /// Whether section `member` can't be in this group.
-fn is_unfit(table: TableSection<'_, '_>, member: u32) -> bool
-    ensures { IsTrue result ↔ IsUnfit (sections_of table.entry.image.now) table.entry.index member }
+pub(crate) fn is_unfit(table: TableSection<'_, '_>, member: u32) -> bool
+    ensures { IsTrue result ↔ IsUnfit (sections_seen table.entry.sections) table.entry.index member }
 {
-    let image = table.image;
+    let sections = table.sections;
     let m = member as usize;
-    m <= table.index || m >= image.section_count() || image.section(m).sh_flags & SHF_GROUP == 0
+    m <= table.index
+        || m >= sections.section_count()
+        || sections.section(m).sh_flags & SHF_GROUP == 0
 }
 
 /// Whether each member of a group of this content is above the one before it.

@@ -12,6 +12,7 @@
 
 mod dynamic;
 mod group;
+mod group_marks;
 mod notes;
 mod relocations;
 

@@ -5,7 +5,7 @@ ghost use Rattle.elf_table_lists.specs.Notes.{note_at as note_of, note_end as no
 ghost use Rattle.elf_table_lists.specs.Notes.{IsUnclosedNoteName, name_last, note_rules, note_section_rules, IsCut, notes_of};
 ghost use Rattle.elf_image_rules.specs.Rows.{fault_of, FirstIn};
 ghost use Rattle.elf_image_rules.specs.Rules.{MAX_LEN};
-ghost use Rattle.elf_table_symbols.specs.Sections.{sections_of};
+ghost use Rattle.elf_table_symbols.specs.Sections.{sections_of, sections_seen};
 ghost use Rattle.elf_table_symbols.specs.Verdicts.{IsValidated, IsOnlyValidated, OfItsFile};
 
 use elf_field::abi::*;
@@ -13,8 +13,8 @@ use elf_field::{Order, get_at};
 use elf_image_rules::Broken;
 use elf_image_stream::Fault;
 use elf_image_type::Image;
-use elf_table_symbols::TableSection;
 use elf_table_symbols::rules::*;
+use elf_table_symbols::{SectionsOf, TableSection};
 use std::marker::Model;
 
 // A note (gABI chapter 5, Note Section).
@@ -116,7 +116,7 @@ pub fn note_at<'a>(order: Order, table: &'a [u8], at: usize) -> Note<'a>
 /// Rules 40 and 59 to 62 of a note section. [`Broken`] is the first of them that is broken, at its lowest offset.
 #[tactic(auto, unfolding(crate::specs::Notes::note_section_rules))]
 pub fn validate_note_section(table: TableSection<'_, '_>) -> Result<(), Broken<u64>>
-    ensures { FirstIn (note_section_rules (sections_of table.entry.image.now) table.entry.index) (fault_of result) }
+    ensures { FirstIn (note_section_rules (sections_seen table.entry.sections) table.entry.index) (fault_of result) }
 {
     let section = table.header();
     if section.sh_type != SHT_NOTE {
@@ -215,7 +215,10 @@ impl<'a> Notes<'a> {
             (λ f. IsOnlyValidated (note_section_rules f i) (λ notes. notes ≡ notes_of f i) result) }
     {
         image.prove_stands();
-        validate_note_section(TableSection { image, index: i })?;
+        validate_note_section(TableSection {
+            sections: SectionsOf::Image(image),
+            index: i,
+        })?;
         Ok(sound_notes(image, i))
     }
 
@@ -237,7 +240,10 @@ pub fn sound_notes<'a>(image: &Image<'a>, i: usize) -> Notes<'a>
     requires sound { FirstIn (note_section_rules (sections_of image.now) i) None }
     ensures { result ≡ notes_of (sections_of image.now) i }
 {
-    let section = TableSection { image, index: i };
+    let section = TableSection {
+        sections: SectionsOf::Image(image),
+        index: i,
+    };
     Notes {
         order: section.order(),
         table: section.content(),

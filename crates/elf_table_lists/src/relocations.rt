@@ -7,7 +7,7 @@ ghost use Rattle.elf_table_lists.specs.Relocations.{relocation_section_rules, no
 ghost use Rattle.elf_extent.specs.Extent.{IsLowest};
 ghost use Rattle.elf_image_rules.specs.Rows.{fault_of, AtEntry, FirstIn};
 ghost use Rattle.elf_table_symbols.specs.Symbols.{AreKnown};
-ghost use Rattle.elf_table_symbols.specs.Sections.{sections_of};
+ghost use Rattle.elf_table_symbols.specs.Sections.{sections_of, sections_seen};
 ghost use Rattle.elf_table_symbols.specs.Verdicts.{IsValidated, IsOnlyValidated, OfItsFile};
 ghost use Rattle.elf_table_lists.specs.Left.{relocations_left};
 
@@ -17,7 +17,9 @@ use elf_image_rules::Broken;
 use elf_image_stream::Fault;
 use elf_image_type::Image;
 use elf_table_symbols::rules::*;
-use elf_table_symbols::{LinkedTable, SymbolVerdicts, TableKind, TableSection, validate_own_rules};
+use elf_table_symbols::{
+    LinkedTable, SectionsOf, SymbolVerdicts, TableKind, TableSection, validate_own_rules,
+};
 use std::marker::Model;
 
 // A relocation (gABI chapter 4, Relocation).
@@ -92,8 +94,8 @@ pub fn validate_relocation_section(
     table: TableSection<'_, '_>,
     symbols: SymbolVerdicts<'_>,
 ) -> Result<(), Broken<u64>>
-    requires { AreKnown (sections_of table.image.now) symbols }
-    ensures { FirstIn (relocation_section_rules (sections_of table.entry.image.now) table.entry.index) (fault_of result) }
+    requires { AreKnown (sections_seen table.sections) symbols }
+    ensures { FirstIn (relocation_section_rules (sections_seen table.entry.sections) table.entry.index) (fault_of result) }
 {
     validate_own_rules(table, TableKind::RelocationTable)?;
     let linked = LinkedTable { table };
@@ -104,11 +106,11 @@ pub fn validate_relocation_section(
 /// Rules 53 and 54 of a relocation section.
 #[tactic(auto, unfolding(crate::specs::Relocations::relocation_entry_rules))]
 fn validate_relocations(linked: LinkedTable<'_, '_>) -> Result<(), Broken<u64>>
-    ensures { FirstIn (relocation_entry_rules (sections_of linked.entry.table.image.now) linked.entry.table.index) (fault_of result) }
+    ensures { FirstIn (relocation_entry_rules (sections_seen linked.entry.table.sections) linked.entry.table.index) (fault_of result) }
 {
     let table = linked.table;
     let section = table.header();
-    if section.sh_info as usize >= table.image.section_count() {
+    if section.sh_info as usize >= table.sections.section_count() {
         let at = table.header_offset() + SH_INFO_AT;
         return Err(Broken::new(WRONG_TARGET, at));
     }
@@ -185,7 +187,13 @@ impl<'a> Relocs<'a> {
             (λ f. IsOnlyValidated (relocation_section_rules f i) (λ relocs. relocs ≡ relocations_of f i) result) }
     {
         image.prove_stands();
-        validate_relocation_section(TableSection { image, index: i }, SymbolVerdicts::Unknown)?;
+        validate_relocation_section(
+            TableSection {
+                sections: SectionsOf::Image(image),
+                index: i,
+            },
+            SymbolVerdicts::Unknown,
+        )?;
         Ok(section_relocs(image, i))
     }
 
@@ -220,7 +228,10 @@ pub fn section_relocs<'a>(image: &Image<'a>, i: usize) -> Relocs<'a>
     requires { i < length image.now.sections }
     ensures { result ≡ relocations_of (sections_of image.now) i }
 {
-    let section = TableSection { image, index: i };
+    let section = TableSection {
+        sections: SectionsOf::Image(image),
+        index: i,
+    };
     Relocs {
         order: section.order(),
         addends: section.header().sh_type == SHT_RELA,

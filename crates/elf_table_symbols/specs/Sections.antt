@@ -10,7 +10,10 @@ use Rattle.elf_field.specs.declared.number.Order.{Order}
 use Rattle.elf_field.specs.declared.shdr.Shdr.{Shdr}
 use Rattle.elf_image_outline.specs.Image.{ImageValue, section_header_of}
 use Rattle.elf_image_rules.specs.Rows.{Row, Ruled, When, rule}
+use Rattle.elf_image_rules.specs.ValidatedRecords.{file_of}
 use Rattle.elf_image_rules.specs.Tables.{bytes_in, content_extent, header, order_of, section_header_count, sections, shdr_offset}
+use Rattle.elf_table_symbols.specs.declared.sections_of.SectionsOf.TheVariants.{File, Image}
+use Rattle.elf_table_symbols.specs.declared.sections_of.SectionsOf.{SectionsOf}
 use Rattle.elf_table_symbols.specs.declared.table_section.TableKind.TheVariants.{SymbolTable, RelocationTable, SectionGroup, NoteSection}
 use Rattle.elf_table_symbols.specs.declared.table_section.TableKind.TheVariants.{DynamicArray, HashTable}
 use Rattle.elf_table_symbols.specs.declared.table_section.TableKind.{TableKind}
@@ -30,6 +33,11 @@ sections_in b =
     let h = header b in
     let headers = map (sections b h) (range_with_len 0 (section_header_count h (sections b h 0))) in
     record { header = h; headers = headers; contents = map (λ s. bytes_in b (content_extent s)) headers }
+
+-- those that are seen where tables are tested: of an image, or of the bytes of a file
+abbrev pub sections_seen : SectionsOf → Sections
+sections_seen (Image image) = sections_of image.now
+sections_seen (File records) = sections_in (file_of records.now)
 
 -- the section header of an index, and the section's content
 abbrev pub section : Sections → ℕ → Shdr

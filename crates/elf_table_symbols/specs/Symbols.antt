@@ -13,14 +13,16 @@ use Rattle.elf_image_rules.specs.Rows.{Row, Ruled, rule, AtEntry, Either, OfSome
 use Rattle.elf_image_rules.specs.Rules.{UnclosedAt}
 use Rattle.elf_field.specs.Strings.{string}
 use Rattle.elf_table_symbols.specs.Sections.{Below, Sections, content, section, count, header_at, order, wrong_table_type, own_rules}
-use Rattle.elf_table_symbols.specs.Sections.{kind_of}
+use Rattle.elf_table_symbols.specs.Sections.{IsSymbolType, kind_of}
+use Rattle.elf_table_symbols.specs.Slots.{IsKept}
+use Rattle.elf_table_symbols.specs.declared.slots.TableFault.{TableFault}
 use Rattle.elf_table_symbols.specs.declared.index_tables.IndexTables.{IndexTables}
 use Rattle.elf_table_symbols.specs.declared.symbol_rules.SymbolRule.TheVariants.{MisplacedBinding, SymbolNamePastEnd, WrongSymbolSection}
 use Rattle.elf_table_symbols.specs.declared.symbol_rules.SymbolRule.{SymbolRule}
 use Rattle.elf_table_symbols.specs.declared.symbols.Place.TheVariants.{Undefined, Absolute, Common, Reserved, Section}
 use Rattle.elf_table_symbols.specs.declared.symbols.Place.{Place}
 use Rattle.elf_table_symbols.specs.declared.table_section.TableKind.TheVariants.{SymbolTable}
-use Rattle.elf_table_symbols.specs.declared.verdicts.SymbolVerdicts.TheVariants.{All, Unknown}
+use Rattle.elf_table_symbols.specs.declared.verdicts.SymbolVerdicts.TheVariants.{All, Slots, Unknown}
 use Rattle.elf_table_symbols.specs.declared.verdicts.SymbolVerdicts.{SymbolVerdicts}
 use Rattle.elf_table_symbols.specs.declared.symbol_parts.SymbolParts as declared
 
@@ -303,7 +305,13 @@ pub record AreSymbolVerdicts (f : Sections) (end : ℕ) (verdicts : List (Option
   pub right : (i : ℕ) → i < end → kind_of (section f i).sh_type ≡ Some SymbolTable →
       FirstIn (symbol_table_rules f i) (get_or verdicts i None)
 
+-- each slot of a symbol table that has a verdict has the right one, of slots for the sections from `first` on
+abbrev pub AreSlotVerdicts : Sections → ℕ → List TableFault → Type 0
+AreSlotVerdicts f first slots = (i : ℕ) (found : Option (ℕ × ℕ)) → i < count f → IsSymbolType (section f i).sh_type → IsKept first slots i found →
+    FirstIn (symbol_table_rules f i) found
+
 -- each that is known is the first rule that the symbol table breaks, with its lowest offset
 abbrev pub AreKnown : Sections → SymbolVerdicts → Type 0
 AreKnown f (All verdicts) = AreSymbolVerdicts f (count f) verdicts.now
+AreKnown f (Slots first slots) = AreSlotVerdicts f first slots.now
 AreKnown f Unknown = Unit {0}

@@ -2,8 +2,9 @@
 //! SHT_SYMTAB_SHNDX).
 ghost use Rattle.std.specs.Prelude.{◌≡◌, ◌<◌, length};
 ghost use Rattle.elf_table_symbols.specs.Symbols.{AreIndexTables, index_table as index_table_of, noted};
-ghost use Rattle.elf_table_symbols.specs.Sections.{sections_of};
+ghost use Rattle.elf_table_symbols.specs.Sections.{count, sections_of, sections_seen};
 
+use crate::sections_of::SectionsOf;
 use elf_field::abi::*;
 use elf_image_type::Image;
 
@@ -42,12 +43,12 @@ impl IndexTables {
 }
 
 /// The first two index tables of the symbol table in section `i`.
-pub(crate) fn index_tables_of(image: &Image<'_>, i: usize) -> IndexTables
-    ensures { AreIndexTables (sections_of image.now) i (length image.now.sections) result }
+pub(crate) fn index_tables_of(sections: SectionsOf<'_, '_>, i: usize) -> IndexTables
+    ensures { AreIndexTables (sections_seen sections.entry) i (count (sections_seen sections.entry)) result }
 {
     let mut tables = IndexTables::NONE;
-    for j in 0..image.section_count() {
-        let section = image.section(j);
+    for j in 0..sections.section_count() {
+        let section = sections.section(j);
         if section.sh_type == SHT_SYMTAB_SHNDX && section.sh_link as usize == i {
             tables = tables.with(j);
         }
@@ -59,5 +60,5 @@ pub(crate) fn index_tables_of(image: &Image<'_>, i: usize) -> IndexTables
 pub fn index_table(image: &Image<'_>, i: usize) -> Option<usize>
     ensures { result ≡ index_table_of (sections_of image.now) i }
 {
-    index_tables_of(image, i).first
+    index_tables_of(SectionsOf::Image(image), i).first
 }

@@ -16,6 +16,8 @@
 
 mod index_tables;
 pub mod rules;
+mod sections_of;
+mod slots;
 mod strings;
 mod symbol_parts;
 mod symbol_rules;
@@ -24,6 +26,8 @@ mod table_section;
 mod verdicts;
 
 pub use index_tables::{IndexTables, index_table};
+pub use sections_of::SectionsOf;
+pub use slots::{LEFT_OUT, TableFault};
 pub use strings::{Strings, validate_linked_strings};
 pub use symbol_rules::{entry, validate_symbol_table, word};
 pub use symbols::{Place, Symbol, SymbolIter, Symbols, sound_symbols};

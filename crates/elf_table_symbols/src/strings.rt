@@ -4,10 +4,11 @@ ghost use Rattle.elf_image_rules.specs.Rules.{MAX_LEN};
 ghost use Rattle.elf_image_rules.specs.Rows.{fault_of, FirstIn};
 ghost use Rattle.elf_field.specs.Strings.{string};
 ghost use Rattle.elf_table_symbols.specs.Verdicts.{IsValidated, IsOnlyValidated, OfItsFile};
-ghost use Rattle.elf_table_symbols.specs.Sections.{content, sections_of};
+ghost use Rattle.elf_table_symbols.specs.Sections.{content, sections_of, sections_seen};
 ghost use Rattle.elf_table_symbols.specs.Symbols.{linked_string_rules, string_table_rules};
 
 use crate::rules::*;
+use crate::sections_of::SectionsOf;
 use crate::table_section::TableSection;
 use elf_field::abi::*;
 use elf_image_rules::{Broken, unclosed_at};
@@ -44,7 +45,10 @@ impl<'a> Strings<'a> {
             (λ f. IsOnlyValidated (string_table_rules f i) (λ strings. strings ≡ content f i) result) }
     {
         image.prove_stands();
-        let table = TableSection { image, index: i };
+        let table = TableSection {
+            sections: SectionsOf::Image(image),
+            index: i,
+        };
         validate_string_table(table)?;
         Ok(Strings {
             table: table.content(),
@@ -68,7 +72,7 @@ impl<'a> Strings<'a> {
 /// Rules 40 and 41 of a string table.
 #[tactic(auto, unfolding(crate::specs::Symbols::string_table_rules))]
 fn validate_string_table(table: TableSection<'_, '_>) -> Result<(), Broken<u64>>
-    ensures { FirstIn (string_table_rules (sections_of table.entry.image.now) table.entry.index) (fault_of result) }
+    ensures { FirstIn (string_table_rules (sections_seen table.entry.sections) table.entry.index) (fault_of result) }
 {
     let section = table.header();
     let at = table.header_offset();

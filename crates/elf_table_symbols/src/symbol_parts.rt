@@ -2,7 +2,7 @@
 ghost use Rattle.std.specs.Prelude.{◌≡◌, ℕ, Some, ◌*◌, ◌/◌, ◌+◌, ◌<◌, ◌≤◌, length};
 ghost use Rattle.elf_field.specs.Abi.{SHDR_SIZE};
 ghost use Rattle.elf_image_rules.specs.Rules.{MAX_LEN};
-ghost use Rattle.elf_table_symbols.specs.Sections.{section, sections_of};
+ghost use Rattle.elf_table_symbols.specs.Sections.{count, section, sections_seen};
 
 use crate::index_tables::IndexTables;
 use crate::symbol_rules::index_words_in;
@@ -42,14 +42,14 @@ impl<'a> SymbolParts<'a> {
 
     /// The parts of this symbol table, with its index tables.
     pub(crate) fn new(linked: LinkedTable<'_, 'a>, tables: IndexTables) -> SymbolParts<'a>
-        requires { let t = linked.table in AreIndexTables (sections_of t.image.now) t.index (length t.image.now.sections) tables }
-        ensures value { parts_value result ≡ symbol_parts (sections_of linked.entry.table.image.now) linked.entry.table.index }
+        requires { let t = linked.table in AreIndexTables (sections_seen t.sections) t.index (count (sections_seen t.sections)) tables }
+        ensures value { parts_value result ≡ symbol_parts (sections_seen linked.entry.table.sections) linked.entry.table.index }
         ensures sized { (j : ℕ) → tables.first ≡ Some j →
-            length result.words.now ≡ (section (sections_of linked.entry.table.image.now) j).sh_size }
+            length result.words.now ≡ (section (sections_seen linked.entry.table.sections) j).sh_size }
     {
         let table = linked.table;
         let section = table.header();
-        let (words, words_start) = index_words_in(table.image, tables.first);
+        let (words, words_start) = index_words_in(table.sections, tables.first);
         SymbolParts {
             order: table.order(),
             header: table.header_offset(),
@@ -61,7 +61,7 @@ impl<'a> SymbolParts<'a> {
             index_table: tables.first,
             words,
             words_start,
-            sections: table.image.section_count(),
+            sections: table.sections.section_count(),
         }
     }
 

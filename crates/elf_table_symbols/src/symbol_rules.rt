@@ -6,33 +6,36 @@ ghost use Rattle.elf_table_symbols.specs.Symbols.{index_words, index_words_start
 ghost use Rattle.elf_table_symbols.specs.Symbols.{AreIndexTables, parts_value, symbol_parts, BreaksSymbolEntry, symbol_entry_rules};
 ghost use Rattle.elf_table_symbols.specs.Symbols.{index_table_rules, place_rules, rest_rules, symbol_0_not_null, symbol_field};
 ghost use Rattle.elf_table_symbols.specs.Symbols.{symbol_table_rules, IsWrongIndexWord, wrong_index_word};
-ghost use Rattle.elf_table_symbols.specs.Sections.{section, sections_of, content};
+ghost use Rattle.elf_table_symbols.specs.Sections.{count, section, sections_seen, content};
 ghost use Rattle.elf_extent.specs.Extent.{IsLowest};
 ghost use Rattle.elf_image_rules.specs.Rows.{fault_of, AtEntry, FirstIn};
 
 use crate::index_tables::IndexTables;
 use crate::rules::*;
+use crate::sections_of::SectionsOf;
 use crate::strings::validate_linked_strings;
 use crate::symbol_parts::SymbolParts;
 use crate::table_section::{LinkedTable, TableKind, TableSection, validate_own_rules};
 use elf_field::abi::*;
 use elf_field::{Order, Sym, get_at};
 use elf_image_rules::Broken;
-use elf_image_type::Image;
 
 // The entries of a symbol table's content, and the words of its index table (gABI chapter 4, Symbol Table).
 
 /// The content of an index table, and its offset.
-pub(crate) fn index_words_in<'a>(image: &Image<'a>, table: Option<usize>) -> (&'a [u8], u64)
-    requires there { (j : ℕ) → table ≡ Some j → j < length image.now.sections }
-    requires typed { (j : ℕ) → table ≡ Some j → (section (sections_of image.now) j).sh_type ≡ SHT_SYMTAB_SHNDX }
-    ensures words { result.0.now ≡ index_words (sections_of image.now) table }
-    ensures start { result.1 ≡ index_words_start (sections_of image.now) table }
-    ensures sized { (j : ℕ) → table ≡ Some j → length result.0.now ≡ (section (sections_of image.now) j).sh_size }
+pub(crate) fn index_words_in<'a>(
+    sections: SectionsOf<'_, 'a>,
+    table: Option<usize>,
+) -> (&'a [u8], u64)
+    requires there { (j : ℕ) → table ≡ Some j → j < count (sections_seen sections) }
+    requires typed { (j : ℕ) → table ≡ Some j → (section (sections_seen sections) j).sh_type ≡ SHT_SYMTAB_SHNDX }
+    ensures words { result.0.now ≡ index_words (sections_seen sections.entry) table }
+    ensures start { result.1 ≡ index_words_start (sections_seen sections.entry) table }
+    ensures sized { (j : ℕ) → table ≡ Some j → length result.0.now ≡ (section (sections_seen sections.entry) j).sh_size }
     ensures inside { 0 < length result.0.now → result.1 + length result.0.now ≤ MAX_LEN }
 {
     match table {
-        Some(j) => (image.content(j), image.section(j).sh_offset),
+        Some(j) => (sections.content(j), sections.section(j).sh_offset),
         None => (&[], 0),
     }
 }
@@ -158,29 +161,29 @@ fn validate_index_table(
     tables: IndexTables,
     symbols: usize,
 ) -> Result<(), Broken<u64>>
-    requires tables { AreIndexTables (sections_of table.image.now) table.index (length table.image.now.sections) tables }
+    requires tables { AreIndexTables (sections_seen table.sections) table.index (count (sections_seen table.sections)) tables }
     requires few { symbols ≤ MAX_LEN }
-    ensures fault { FirstIn (index_table_rules (sections_of table.entry.image.now) table.entry.index tables.first symbols)
+    ensures fault { FirstIn (index_table_rules (sections_seen table.entry.sections) table.entry.index tables.first symbols)
         (fault_of result) }
     ensures sized { OnOk result
-        ((j : ℕ) → tables.first ≡ Some j → length (content (sections_of table.entry.image.now) j) ≡ WORD_SIZE * symbols) }
+        ((j : ℕ) → tables.first ≡ Some j → length (content (sections_seen table.entry.sections) j) ≡ WORD_SIZE * symbols) }
 {
-    let image = table.image;
+    let sections = table.sections;
     if let Some(j) = tables.second {
-        return Err(Broken::new(SECOND_INDEX_TABLE, image.header_offset(j) + SH_LINK_AT));
+        return Err(Broken::new(SECOND_INDEX_TABLE, sections.header_offset(j) + SH_LINK_AT));
     }
     let Some(j) = tables.first else {
         return Ok(());
     };
-    let section = image.section(j);
-    let at = image.header_offset(j);
+    let section = sections.section(j);
+    let at = sections.header_offset(j);
     if section.sh_size != WORD_SIZE * symbols as u64 {
         return Err(Broken::new(WRONG_INDEX_TABLE_SIZE, at + SH_SIZE_AT));
     }
     if section.sh_entsize != WORD_SIZE {
         return Err(Broken::new(WRONG_INDEX_TABLE_SIZE, at + SH_ENTSIZE_AT));
     }
-    image.prove_content_inside(j);
+    sections.prove_content_inside(j);
     Ok(())
 }
 
@@ -234,9 +237,9 @@ fn validate_rest(
     tables: IndexTables,
     parts: &SymbolParts<'_>,
 ) -> Result<(), Broken<u64>>
-    requires tables { AreIndexTables (sections_of table.image.now) table.index (length table.image.now.sections) tables }
-    requires parts { parts_value parts.now ≡ symbol_parts (sections_of table.image.now) table.index }
-    ensures { FirstIn (rest_rules (sections_of table.entry.image.now) table.entry.index (parts_value parts.now)) (fault_of result) }
+    requires tables { AreIndexTables (sections_seen table.sections) table.index (count (sections_seen table.sections)) tables }
+    requires parts { parts_value parts.now ≡ symbol_parts (sections_seen table.sections) table.index }
+    ensures { FirstIn (rest_rules (sections_seen table.entry.sections) table.entry.index (parts_value parts.now)) (fault_of result) }
 {
     validate_linked_strings(parts.names, parts.names_start)?;
     validate_entries(parts)?;
@@ -251,8 +254,8 @@ pub fn validate_symbol_table(
     table: TableSection<'_, '_>,
     tables: IndexTables,
 ) -> Result<(), Broken<u64>>
-    requires { AreIndexTables (sections_of table.image.now) table.index (length table.image.now.sections) tables }
-    ensures { FirstIn (symbol_table_rules (sections_of table.entry.image.now) table.entry.index) (fault_of result) }
+    requires { AreIndexTables (sections_seen table.sections) table.index (count (sections_seen table.sections)) tables }
+    ensures { FirstIn (symbol_table_rules (sections_seen table.entry.sections) table.entry.index) (fault_of result) }
 {
     validate_own_rules(table, TableKind::SymbolTable)?;
     let parts = SymbolParts::new(LinkedTable { table }, tables);

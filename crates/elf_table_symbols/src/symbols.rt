@@ -7,6 +7,7 @@ ghost use Rattle.elf_table_symbols.specs.Sections.{sections_of};
 ghost use Rattle.elf_table_symbols.specs.SymbolView.{no_symbol_entry, symbol_entry_value, symbols_left};
 
 use crate::index_tables::{IndexTables, index_tables_of};
+use crate::sections_of::SectionsOf;
 use crate::symbol_parts::SymbolParts;
 use crate::symbol_rules::{entry, validate_symbol_table, word};
 use crate::table_section::{LinkedTable, TableSection};
@@ -106,8 +107,9 @@ impl<'a> Symbols<'a> {
             (λ f. IsOnlyValidated (symbol_table_rules f i) (λ symbols. symbols ≡ symbols_of f i) result) }
     {
         image.prove_stands();
-        let table = TableSection { image, index: i };
-        let tables = index_tables_of(image, i);
+        let sections = SectionsOf::Image(image);
+        let table = TableSection { sections, index: i };
+        let tables = index_tables_of(sections, i);
         validate_symbol_table(table, tables)?;
         Ok(sound_symbols(image, i, tables))
     }
@@ -163,7 +165,8 @@ pub fn sound_symbols<'a>(image: &Image<'a>, i: usize, tables: IndexTables) -> Sy
     requires sound { FirstIn (symbol_table_rules (sections_of image.now) i) None }
     ensures { result ≡ symbols_of (sections_of image.now) i }
 {
-    let table = TableSection { image, index: i };
+    let sections = SectionsOf::Image(image);
+    let table = TableSection { sections, index: i };
     let parts = SymbolParts::new(LinkedTable { table }, tables);
     Symbols {
         order: parts.order,

@@ -1,14 +1,14 @@
 //! A section that may hold a table, and one that links to another section (gABI chapter 4, Sections).
 ghost use Rattle.std.specs.Prelude.{◌≡◌, ◌↔◌, ◌<◌, ◌⊎◌, IsTrue, length, ◌%◌, Some, OnOk};
-ghost use Rattle.elf_table_symbols.specs.Sections.{IsLinkOf, IsSymbolType, entry_size as entry_size_of, kind_of, section, sections_of};
+ghost use Rattle.elf_table_symbols.specs.Sections.{IsLinkOf, IsSymbolType, entry_size as entry_size_of, kind_of, section, sections_seen};
 ghost use Rattle.elf_table_symbols.specs.Sections.{own_rules, count, entry_size};
 ghost use Rattle.elf_image_rules.specs.Rows.{fault_of, FirstIn};
 
 use crate::rules::*;
+use crate::sections_of::SectionsOf;
 use elf_field::abi::*;
 use elf_field::{Order, Shdr};
 use elf_image_rules::Broken;
-use elf_image_type::Image;
 
 // The kinds of tables, and what the section headers of those say whose entries are of one size
 // (gABI chapter 4, Sections: sh_type, sh_link, sh_entsize).
@@ -82,14 +82,14 @@ fn is_symbol_type(section_type: u32) -> bool
     section_type == SHT_SYMTAB || section_type == SHT_DYNSYM
 }
 
-/// A section of an image, which may hold a table. It is given by its index, of which there is a section.
+/// A section of an image or of a file, which may hold a table. It is given by its index, of which there is a section.
 #[derive(Clone, Copy, Drop)]
 pub struct TableSection<'i, 'a> {
-    /// The image.
-    pub image: &'i Image<'a>,
+    /// The sections of the image or of the file.
+    pub sections: SectionsOf<'i, 'a>,
     /// The section's index.
     pub index: usize,
-    ghost there: { index < length image.now.sections },
+    ghost there: { index < count (sections_seen sections) },
 }
 
 impl<'i, 'a> TableSection<'i, 'a> {
@@ -100,43 +100,43 @@ impl<'i, 'a> TableSection<'i, 'a> {
 
     /// The byte order of the file.
     pub fn order(self) -> Order
-        ensures { result ≡ order (sections_of self.entry.image.now) }
+        ensures { result ≡ order (sections_seen self.entry.sections) }
     {
-        self.image.order()
+        self.sections.order()
     }
 
     /// The section header.
     pub fn header(self) -> Shdr
-        ensures { result ≡ section (sections_of self.entry.image.now) self.entry.index }
+        ensures { result ≡ section (sections_seen self.entry.sections) self.entry.index }
     {
-        self.image.section(self.index)
+        self.sections.section(self.index)
     }
 
     /// The offset in the file of its section header.
     pub fn header_offset(self) -> u64
-        ensures value { result ≡ header_at (sections_of self.entry.image.now) self.entry.index }
+        ensures value { result ≡ header_at (sections_seen self.entry.sections) self.entry.index }
         ensures inside { result + SHDR_SIZE ≤ MAX_LEN }
     {
-        self.image.header_offset(self.index)
+        self.sections.header_offset(self.index)
     }
 
     /// The section's content, empty where it has none in the file.
     pub fn content(self) -> &'a [u8]
-        ensures bytes { result.now ≡ content (sections_of self.entry.image.now) self.entry.index }
-        ensures size { length result.now ≡ (content_extent (section (sections_of self.entry.image.now) self.entry.index)).len }
+        ensures bytes { result.now ≡ content (sections_seen self.entry.sections) self.entry.index }
+        ensures size { length result.now ≡ (content_extent (section (sections_seen self.entry.sections) self.entry.index)).len }
         ensures inside { 0 < length result.now →
-            (section (sections_of self.entry.image.now) self.entry.index).sh_offset + length result.now ≤ MAX_LEN }
+            (section (sections_seen self.entry.sections) self.entry.index).sh_offset + length result.now ≤ MAX_LEN }
     {
-        self.image.content(self.index)
+        self.sections.content(self.index)
     }
 }
 
-/// A section that links to another one of the image.
+/// A section that links to another one.
 #[derive(Clone, Copy, Drop)]
 pub struct LinkedTable<'i, 'a> {
     /// The section that links.
     pub table: TableSection<'i, 'a>,
-    ghost linked: { (section (sections_of table.image.now) table.index).sh_link < length table.image.now.sections },
+    ghost linked: { (section (sections_seen table.sections) table.index).sh_link < count (sections_seen table.sections) },
 }
 
 impl<'i, 'a> LinkedTable<'i, 'a> {
@@ -146,27 +146,27 @@ impl<'i, 'a> LinkedTable<'i, 'a> {
 
     /// The index of the section that it links to.
     pub fn link(self) -> usize
-        ensures value { result ≡ (section (sections_of self.entry.table.image.now) self.entry.table.index).sh_link }
-        ensures there { result < length self.entry.table.image.now.sections }
+        ensures value { result ≡ (section (sections_seen self.entry.table.sections) self.entry.table.index).sh_link }
+        ensures there { result < count (sections_seen self.entry.table.sections) }
     {
         self.table.header().sh_link as usize
     }
 
     /// The header of the section that it links to.
     pub fn linked_header(self) -> Shdr
-        ensures { let f = sections_of self.entry.table.image.now in result ≡ section f (section f self.entry.table.index).sh_link }
+        ensures { let f = sections_seen self.entry.table.sections in result ≡ section f (section f self.entry.table.index).sh_link }
     {
-        self.table.image.section(self.link())
+        self.table.sections.section(self.link())
     }
 
     /// The content of the section that it links to.
     pub fn linked_content(self) -> &'a [u8]
-        ensures bytes { let f = sections_of self.entry.table.image.now in
+        ensures bytes { let f = sections_seen self.entry.table.sections in
             result.now ≡ content f (section f self.entry.table.index).sh_link }
-        ensures inside { let f = sections_of self.entry.table.image.now in
+        ensures inside { let f = sections_seen self.entry.table.sections in
             0 < length result.now → (section f (section f self.entry.table.index).sh_link).sh_offset + length result.now ≤ MAX_LEN }
     {
-        self.table.image.content(self.link())
+        self.table.sections.content(self.link())
     }
 }
 
@@ -176,11 +176,11 @@ impl<'i, 'a> LinkedTable<'i, 'a> {
 /// Rules 40 and 42 to 44 of a table of this kind.
 #[tactic(auto, unfolding(crate::specs::Sections::own_rules))]
 pub fn validate_own_rules(table: TableSection<'_, '_>, kind: TableKind) -> Result<(), Broken<u64>>
-    ensures fault { FirstIn (own_rules kind (sections_of table.entry.image.now) table.entry.index) (fault_of result) }
-    ensures typed { OnOk result (kind_of (section (sections_of table.entry.image.now) table.entry.index).sh_type ≡ Some kind) }
-    ensures sized { let s = section (sections_of table.entry.image.now) table.entry.index in
+    ensures fault { FirstIn (own_rules kind (sections_seen table.entry.sections) table.entry.index) (fault_of result) }
+    ensures typed { OnOk result (kind_of (section (sections_seen table.entry.sections) table.entry.index).sh_type ≡ Some kind) }
+    ensures sized { let s = section (sections_seen table.entry.sections) table.entry.index in
         OnOk result (s.sh_size % entry_size kind s.sh_type ≡ 0) }
-    ensures linked { let f = sections_of table.entry.image.now in let link = (section f table.entry.index).sh_link in
+    ensures linked { let f = sections_seen table.entry.sections in let link = (section f table.entry.index).sh_link in
         OnOk result ((link < count f) × IsLinkOf kind (section f link).sh_type) }
 {
     let section = table.header();
@@ -196,8 +196,8 @@ pub fn validate_own_rules(table: TableSection<'_, '_>, kind: TableKind) -> Resul
         return Err(Broken::new(PARTIAL_ENTRY, at + SH_SIZE_AT));
     }
     let link = section.sh_link as usize;
-    let image = table.image;
-    if link >= image.section_count() || !kind.is_link(image.section(link).sh_type) {
+    let sections = table.sections;
+    if link >= sections.section_count() || !kind.is_link(sections.section(link).sh_type) {
         return Err(Broken::new(WRONG_LINK, at + SH_LINK_AT));
     }
     Ok(())

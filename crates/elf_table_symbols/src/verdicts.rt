@@ -2,9 +2,11 @@
 ghost use Rattle.std.specs.Prelude.{◌≡◌, ◌+◌, ◌<◌, ◌++◌, ◌^◌, [], ◌∷◌, None, OnErr, OnOk, get_or, length};
 ghost use Rattle.elf_image_rules.specs.Rows.{fault_of, FirstIn};
 ghost use Rattle.elf_table_symbols.specs.Symbols.{AreKnown, symbol_table_rules};
-ghost use Rattle.elf_table_symbols.specs.Sections.{section, sections_of, IsSymbolType};
+ghost use Rattle.elf_table_symbols.specs.Sections.{count, section, sections_seen, IsSymbolType};
 
 use crate::index_tables::index_tables_of;
+use crate::sections_of::SectionsOf;
+use crate::slots::{TableFault, kept_verdict};
 use crate::symbol_rules::validate_symbol_table;
 use crate::table_section::{LinkedTable, TableSection};
 use elf_image_rules::Broken;
@@ -76,6 +78,8 @@ impl Verdicts {
 pub enum SymbolVerdicts<'a> {
     /// The verdicts on the symbol table in each section.
     All(&'a Verdicts),
+    /// Those that are in slots, of the sections from the first one on that is named. What they lack is validated when it is asked for.
+    Slots(usize, &'a [TableFault]),
     /// None: a symbol table is validated when its verdict is asked for.
     Unknown,
 }
@@ -83,20 +87,29 @@ pub enum SymbolVerdicts<'a> {
 impl SymbolVerdicts<'_> {
     /// The verdict on the symbol table that this table links to.
     pub fn of(self, linked: LinkedTable<'_, '_>) -> Result<(), Broken<u64>>
-        requires typed { let f = sections_of linked.table.image.now in
+        requires typed { let f = sections_seen linked.table.sections in
             IsSymbolType (section f (section f linked.table.index).sh_link).sh_type }
-        requires known { AreKnown (sections_of linked.table.image.now) self }
-        ensures { let f = sections_of linked.entry.table.image.now in
+        requires known { AreKnown (sections_seen linked.table.sections) self }
+        ensures { let f = sections_seen linked.entry.table.sections in
             FirstIn (symbol_table_rules f (section f linked.entry.table.index).sh_link) (fault_of result) }
     {
         let index = linked.link();
         match self {
             SymbolVerdicts::All(symbols) => symbols.get(index),
-            SymbolVerdicts::Unknown => {
-                let image = linked.table.image;
-                let table = TableSection { image, index };
-                validate_symbol_table(table, index_tables_of(image, index))
-            }
+            SymbolVerdicts::Slots(first, slots) => match kept_verdict(first, slots, index) {
+                Some(verdict) => verdict,
+                None => validate_alone(linked.table.sections, index),
+            },
+            SymbolVerdicts::Unknown => validate_alone(linked.table.sections, index),
         }
     }
+}
+
+// The verdict on the symbol table in section `index`, whose index tables are searched for.
+fn validate_alone(sections: SectionsOf<'_, '_>, index: usize) -> Result<(), Broken<u64>>
+    requires { index < count (sections_seen sections) }
+    ensures { FirstIn (symbol_table_rules (sections_seen sections.entry) index) (fault_of result) }
+{
+    let table = TableSection { sections, index };
+    validate_symbol_table(table, index_tables_of(sections, index))
 }

@@ -5,7 +5,7 @@ use Rattle.elf_extent.specs.Extent.{IsLowest, Never}
 use Rattle.elf_field.specs.Abi.{D_UN_AT, DYN_SIZE}
 use Rattle.elf_field.specs.declared.number.Order.{Order}
 use Rattle.elf_image_rules.specs.Rows.{AtEntry}
-use Rattle.elf_table_symbols.specs.Sections.{Sections, content, order, section, sections_of}
+use Rattle.elf_table_symbols.specs.Sections.{Sections, content, order, section, sections_seen}
 use Rattle.elf_table_lists.specs.Dynamic.{IsNullEntry, dynamic_entry, dynamic_entry_count, IsDynamicStringPastEnd, dynamic_rules}
 use Rattle.elf_table_lists.specs.Dynamic.{dynamic_string_past_end, no_null_entry}
 use Rattle.elf_table_lists.proofs.EntryLists.{IsEnd, lowest_before_end}
@@ -43,8 +43,8 @@ returns-in-Some c =
     c.in-Some.ensures in
     rw c.new-in-Some.ensures
     (inr (
-      has_null_entry (sections_of c.args.linked.table.image.now) c.args.linked.table.index _ is other,
-      inl (refl, strings (sections_of c.args.linked.table.image.now) c.args.linked.table.index _ (Some c.in-Some.at) is lowest),
+      has_null_entry (sections_seen c.args.linked.table.sections) c.args.linked.table.index _ is other,
+      inl (refl, strings (sections_seen c.args.linked.table.sections) c.args.linked.table.index _ (Some c.in-Some.at) is lowest),
     ))
 
 pub returns-in-None : goal.returns-in-None
@@ -55,6 +55,6 @@ returns-in-None c =
     let other = rw (c.dynamic_entry_count.ensures, c.content-content.ensures.bytes) at c.if-end-dynamic_entry_count.false in
     let never = rw (c.order-order.ensures, c.content-content.ensures.bytes, c.linked_content-size.ensures.bytes, c.header-start.ensures) at
     c.in-None.ensures in (
-      has_null_entry (sections_of c.args.linked.table.image.now) c.args.linked.table.index _ is other,
-      (strings (sections_of c.args.linked.table.image.now) c.args.linked.table.index _ None is never, tt),
+      has_null_entry (sections_seen c.args.linked.table.sections) c.args.linked.table.index _ is other,
+      (strings (sections_seen c.args.linked.table.sections) c.args.linked.table.index _ None is never, tt),
     )

@@ -5,7 +5,7 @@ use Rattle.std.proofs.Common.{inl, inr, ℕ, ◌+◌, ◌/◌, ◌<◌, ◌≤�
 use Rattle.std.proofs.lemmas.Bool.{cases_lt}
 use Rattle.elf_field.specs.Abi.{WORD_SIZE}
 use Rattle.elf_field.specs.declared.number.Order.{Order}
-use Rattle.elf_table_symbols.specs.Sections.{section, sections_of}
+use Rattle.elf_table_symbols.specs.Sections.{section, sections_seen}
 use Rattle.elf_table_symbols.proofs.Public.{sound_link}
 use Rattle.elf_table_hash.specs.HashTable.{names_in}
 use Rattle.elf_table_hash.proofs.HashSound.{hash_content, hash_type, names_of_section, length_names, length_words}
@@ -13,11 +13,11 @@ use Rattle.elf_table_hash.proofs.hash_parts.HashParts.new.Goals as goal
 
 pub content-strings-requires : goal.content-strings-requires
 content-strings-requires c =
-    rw c.linked_header-strings_index.ensures (sound_link (sections_of c.args.linked.table.image.now) _ c.requires.symbols)
+    rw c.linked_header-strings_index.ensures (sound_link (sections_seen c.args.linked.table.sections) _ c.requires.symbols)
 
 pub returns-clause-value : goal.returns-clause-value
 returns-clause-value c =
-    let f = sections_of c.args.linked.table.image.now in
+    let f = sections_seen c.args.linked.table.sections in
     let names = names_of_section f (section f c.args.linked.table.index).sh_link in
     rw (
       c.header_offset.ensures.value,
@@ -43,7 +43,7 @@ few o table names m le = rw (length_names o table names) (omega arith)
 
 pub invariant_of-result : goal.invariant_of-result
 invariant_of-result c =
-    let f = sections_of c.args.linked.table.image.now in
+    let f = sections_seen c.args.linked.table.sections in
     let i = c.args.linked.table.index in
     let size = c.content.ensures.size ∙ hash_content (section f i) (hash_type f i c.requires.own) in
     let inside = c.content.ensures.inside in
