@@ -1,6 +1,6 @@
 -- In the relocated bytes of a link every applied field holds its number: the bytes of its target are those of memory, and memory has one
 -- byte at each address. So there are no other relocated bytes, and no other answer.
-use Rattle.std.proofs.Common.{◌≡◌, ℕ, ◌+◌, ◌<◌, ◌≤◌, List, [], get_or, length, true, inl, refl, sym, ◌∙◌, ap, subst, arith, Result, Ok, Err}
+use Rattle.std.proofs.Common.{◌≡◌, ℕ, ◌+◌, ◌<◌, List, [], get_or, length, true, inl, refl, sym, ◌∙◌, ap, subst, arith, Result, Ok, Err}
 use Rattle.std.specs.Prelude.{IfErr, IfOk, MatchOption, None, OnOk, Option, Some, slice_index}
 use Rattle.std.proofs.lemmas.List.{ext_get_or}
 use Rattle.elf_link_field.specs.Field.{relocation_number, size_of}
@@ -20,7 +20,7 @@ use Rattle.elf_link_relocate.specs.Fields.{HasField, IsRelocationFault, IsWithin
 use Rattle.elf_link_relocate.specs.Fields.{field_start, target_at, value_at}
 use Rattle.elf_link_relocate.specs.Linked.{AreBytesOf, FieldsHoldNumbers, HasLiveBits, HoldsNumber}
 use Rattle.elf_link_relocate.specs.Linked.{IsLinked, IsSoundMapButOptions, IsMemory}
-use Rattle.elf_link_relocate.specs.Linked.{IsOnlyLinked, LinkedValue, bytes_at, number_byte}
+use Rattle.elf_link_relocate.specs.Linked.{LinkedValue, bytes_at, number_byte}
 use Rattle.elf_object_type.specs.Object.{BodyValue, ObjectValue, bits, group, is_bits, no_bits, relocs}
 
 -- ---- small facts

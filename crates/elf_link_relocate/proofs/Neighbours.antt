@@ -1,7 +1,7 @@
 -- Neighbours of sorted spots. If the field of each spot is after that of the spot before it, no two fields share a byte, since that order is
 -- transitive (`after_all`). And if one is not, it is in the same section and starts before the end of that field, so these two share the byte
 -- where it starts.
-use Rattle.std.proofs.Common.{◌≡◌, ℕ, ◌+◌, ◌<◌, ◌≤◌, ◌⊎◌, List, length, inl, inr, sym, ◌∙◌, ap, subst, arith}
+use Rattle.std.proofs.Common.{◌≡◌, ℕ, ◌+◌, ◌<◌, List, length, inl, inr, sym, ◌∙◌, ap, subst, arith}
 use Rattle.std.proofs.lemmas.Bool.{cases_lt, cases_eq}
 use Rattle.elf_link_field.specs.Field.{size_of}
 use Rattle.elf_link_relocate.proofs.Held.{some_width}

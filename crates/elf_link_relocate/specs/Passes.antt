@@ -23,7 +23,7 @@ use Rattle.elf_link_map.specs.LinkMap.{LinkMapValue}
 use Rattle.elf_link_relocate.specs.Fields.{HasField, no_rule, IsFieldOutOfRange, IsUnplaced, IsValueOutOfRange, target_at, IsWithin}
 use Rattle.elf_link_relocate.specs.Fields.{field_start, number_at, HasOffset, Share, content_in, fields_overlap, field_out_of_range}
 use Rattle.elf_link_relocate.specs.Fields.{unplaced, value_out_of_range}
-use Rattle.elf_link_relocate.specs.Linked.{IsGrid, IsSectionOf, item, with, HasLiveBits, number_byte}
+use Rattle.elf_link_relocate.specs.Linked.{IsGrid, item, with, HasLiveBits, number_byte}
 use Rattle.elf_link_relocate.specs.declared.field.Field.{Field}
 use Rattle.elf_link_relocate.specs.declared.field.FieldTest.TheVariants.{FieldOutOfRange, Unplaced, ValueOutOfRange}
 use Rattle.elf_link_relocate.specs.declared.field.FieldTest.{FieldTest}

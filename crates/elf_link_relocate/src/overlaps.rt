@@ -1,5 +1,5 @@
 //! Rule 15: the first field that shares a byte with one before it.
-ghost use Rattle.std.specs.Prelude.{◌≡◌, ◌↔◌, ◌+◌, ◌<◌, ◌≤◌, All, IfOk, IsTrue, MatchOption, length, map as map_list, false, ⊥, ℕ};
+ghost use Rattle.std.specs.Prelude.{◌≡◌, ◌↔◌, ◌+◌, ◌<◌, ◌≤◌, All, IfOk, IsTrue, MatchOption, length, map as map_list, false, ℕ};
 ghost use Rattle.elf_extent.specs.Extent.{Doubly};
 ghost use Rattle.elf_link_relocate.specs.Passes.{AreSorted, AreSpots, HasNoOverlap, HasShared, IsFirstOverlappingField, IsFirstSharer};
 ghost use Rattle.elf_link_relocate.specs.Passes.{IsFollowed, IsLastOfTarget, IsSpotIn, StandsAfter, field_extent};

@@ -1,17 +1,15 @@
 -- The search is over what the fields carry, which is what their entries say (`none_shared`, `first_shared`).
-use Rattle.std.proofs.Common.{◌≡◌, ◌∙◌, rules, subst, sym, false}
-use Rattle.std.proofs.lemmas.Bool.{true≢false}
+use Rattle.std.proofs.Common.{subst}
 use Rattle.elf_link_relocate.proofs.Sharing.{first_shared, none_shared}
 use Rattle.elf_link_relocate.specs.Passes.{FieldListValue, HasNoOverlap, IsFirstOverlappingField}
 use Rattle.elf_link_relocate.proofs.field.FieldList.first_overlap.Goals as goal
 
-pub returns-then-not-branch : goal.returns-then-not-branch
-returns-then-not-branch c =
+pub returns-then-are_apart : goal.returns-then-are_apart
+returns-then-are_apart c =
     let l = c.self.inside in
-    let off : c.in_ok-is_any_shared.field-0 ≡ false = search rules in
     subst (λ (v : FieldListValue). HasNoOverlap v.objects v.fields) c.self.view_is
     (none_shared l.values.now.objects l.values.now.map l.fields.now c.self.invariant.read
-    (λ shared. true≢false (sym (c.in_ok-is_any_shared.ensures.1 shared) ∙ off)))
+    (c.are_apart.ensures.apart c.if-are_apart.true))
 
 pub returns : goal.returns
 returns c =
