@@ -2,19 +2,20 @@
 //! whose names begin with `.debug`, their relocations, and groups of nothing else.
 #![tactic(auto)]
 
-ghost use Rattle.std.specs.Prelude.{◌≡◌, ℕ, IfOk, List, OnOk, map};
-ghost use Rattle.std.specs.List.{list_all};
+ghost use Rattle.std.specs.Prelude.{◌≡◌, ℕ, IfOk, List, OnOk};
 ghost use Rattle.std.specs.Io.KnownBytes.{Appends, Consumes};
-ghost use Rattle.elf_object.specs.ObjectView.{body_value, section_value};
-ghost use Rattle.elf_object.specs.Without.{object_without};
-ghost use Rattle.example_strip.specs.Debug.{IsStripped, debug_sections as debug_sections_of, has_debug_name as has_debug_name_of};
-ghost use Rattle.example_strip.specs.Debug.{groups_debug as groups_debug_of, is_debug as is_debug_of, is_debug_data as is_debug_data_of};
-ghost use Rattle.example_strip.specs.Debug.{relocates_debug as relocates_debug_of};
+ghost use Rattle.std.specs.List.{list_all};
+ghost use Rattle.elf_object.specs.Denotes.{Denotes};
 ghost use Rattle.elf_object.specs.Object.{section_at};
+ghost use Rattle.elf_object.specs.ObjectFile.{IsWrittenFile};
+ghost use Rattle.elf_object.specs.ObjectView.{section_value};
+ghost use Rattle.elf_table.specs.Sections.{sections_of};
+ghost use Rattle.example_strip.specs.Debug.{IsObjectIn, IsStripped, has_debug_name as has_debug_name_of, is_debug as is_debug_of};
+ghost use Rattle.example_strip.specs.Debug.{is_debug_data as is_debug_data_of, without_debug};
 
-use elf_image::{parse, read_to_end};
-use elf_object::{Body, Object, Section, object_of, without, write_object};
-use std::alloc::{AllocError, Global};
+use elf_image::{Image, parse, read_to_end};
+use elf_object::{Body, Object, Section, WithoutFault, object_of, retain, write_object};
+use std::alloc::Global;
 use std::io::{self, Read, Write};
 use std::process::ExitCode;
 
@@ -40,58 +41,79 @@ fn strip<R: Read, W: Write>(
     if read_to_end(reader, &mut bytes).is_err() {
         return Err("the input can't be read");
     }
-    let Ok(image) = parse(alloc, &bytes) else {
-        return Err("the input is no ELF-64 file");
+    strip_file(alloc, &bytes, writer)
+}
+
+/// Writes the object that these bytes denote, without its debug data.
+fn strip_file<W: Write>(alloc: Global, bytes: &[u8], writer: &mut W) -> Result<(), &'static str>
+    ensures { OnOk result ((c : List ℕ) × IsStripped bytes.now c × Appends (W.contents writer.old) (W.contents writer.new) c) }
+{
+    let object = object_in(alloc, bytes)?;
+    write_stripped(alloc, &object, writer)?;
+    Ok(())
+}
+
+/// The object that these bytes denote.
+fn object_in<'a>(alloc: Global, bytes: &'a [u8]) -> Result<Object<'a>, &'static str>
+    ensures { IfOk result (IsObjectIn bytes.entry.now) }
+{
+    match parse(alloc, bytes) {
+        Ok(image) => denoted(alloc, &image),
+        Err(_) => Err("the input is no ELF-64 file"),
+    }
+}
+
+/// The object that an image denotes.
+fn denoted<'a>(alloc: Global, image: &Image<'a>) -> Result<Object<'a>, &'static str>
+    ensures { IfOk result (λ o. Denotes (sections_of image.now) o) }
+{
+    match object_of(alloc, image) {
+        Ok(object) => Ok(object),
+        Err(_) => Err("the input is no object"),
+    }
+}
+
+/// Writes an object without its debug data.
+#[tactic(auto, unfolding(crate::specs::Debug::without_debug))]
+fn write_stripped<W: Write>(
+    alloc: Global,
+    object: &Object<'_>,
+    writer: &mut W,
+) -> Result<(), &'static str>
+    ensures { OnOk result ((c : List ℕ) × IsWrittenFile (without_debug object.now) c ×
+        Appends (W.contents writer.old) (W.contents writer.new) c) }
+{
+    let rest = match retain(alloc, object, |_, section| !is_debug(object, section)) {
+        Ok(rest) => rest,
+        Err(WithoutFault::Dangling { .. }) => return Err("another section refers to debug data"),
+        Err(WithoutFault::OutOfMemory) => return Err("there is too little memory"),
     };
-    let Ok(object) = object_of(alloc, &image) else {
-        return Err("the input is no object");
-    };
-    let rest = without_debug(alloc, &object)?;
     match write_object(alloc, &rest, writer) {
         Ok(()) => Ok(()),
         Err(_) => Err("the object can't be written"),
     }
 }
 
-/// The object without its debug data.
-fn without_debug<'a>(alloc: Global, object: &Object<'a>) -> Result<Object<'a>, &'static str>
-    ensures { IfOk result (λ rest. rest ≡ object_without object.now (debug_sections_of object.now)) }
-{
-    let Ok(debug) = debug_marks(alloc, object, object.sections()) else {
-        return Err("there is too little memory");
-    };
-    match without(alloc, object, &debug) {
-        Ok(rest) => Ok(rest),
-        Err(_) => Err("another section refers to debug data"),
-    }
-}
-
-/// A mark for each of these sections: whether it is debug data.
-fn debug_marks(
-    alloc: Global,
-    object: &Object<'_>,
-    sections: &[Section<'_>],
-) -> Result<Vec<bool>, AllocError>
-    ensures { IfOk result (λ debug. debug.items ≡ map (λ section. is_debug_of object.now (section_value section)) sections.now) }
-{
-    sections
-        .iter()
-        .map(|section| is_debug(object, section))
-        .collect(alloc)
-}
-
 /// Whether a section is debug data, or a group of nothing else.
 fn is_debug(object: &Object<'_>, section: &Section<'_>) -> bool
     ensures { result ≡ is_debug_of object.now (section_value section.now) }
 {
-    is_debug_data(object, section) || groups_debug(object, &section.body)
+    is_debug_data(object, section)
+        || match &section.body {
+            Body::Group { members, .. } => are_debug_data(object, members),
+            _ => false,
+        }
 }
 
 /// Whether a section has the name of debug data, or relocates a section that has.
 fn is_debug_data(object: &Object<'_>, section: &Section<'_>) -> bool
     ensures { result ≡ is_debug_data_of object.now (section_value section.now) }
 {
-    has_debug_name(section) || relocates_debug(object, &section.body)
+    has_debug_name(section)
+        || match &section.body {
+            Body::Relocs { target, .. } => has_debug_name_at(object, *target),
+            _ => false,
+        }
 }
 
 fn has_debug_name(section: &Section<'_>) -> bool
@@ -100,35 +122,25 @@ fn has_debug_name(section: &Section<'_>) -> bool
     section.name.starts_with(b".debug")
 }
 
-fn relocates_debug(object: &Object<'_>, body: &Body<'_>) -> bool
-    ensures { result ≡ relocates_debug_of object.now (body_value body.now) }
+fn has_debug_name_at(object: &Object<'_>, position: usize) -> bool
+    ensures { result ≡ has_debug_name_of (section_at object.now position) }
 {
-    let Body::Relocs { target, .. } = body else {
-        return false;
-    };
-    match object.sections().get(*target) {
-        Some(section) => has_debug_name(section),
-        None => false,
-    }
-}
-
-fn groups_debug(object: &Object<'_>, body: &Body<'_>) -> bool
-    ensures { result ≡ groups_debug_of object.now (body_value body.now) }
-{
-    let Body::Group { members, .. } = body else {
-        return false;
-    };
-    are_debug(object, members)
+    object
+        .sections()
+        .get(position)
+        .is_some_and(|section| has_debug_name(section))
 }
 
 /// Whether each of these sections is debug data.
-fn are_debug(object: &Object<'_>, members: &[usize]) -> bool
+fn are_debug_data(object: &Object<'_>, members: &[usize]) -> bool
     ensures { result ≡ list_all (λ member. is_debug_data_of object.now (section_at object.now member)) members.now }
 {
-    members.iter().all(|member| is_debug_at(object, *member))
+    members
+        .iter()
+        .all(|member| is_debug_data_at(object, *member))
 }
 
-fn is_debug_at(object: &Object<'_>, position: usize) -> bool
+fn is_debug_data_at(object: &Object<'_>, position: usize) -> bool
     ensures { result ≡ is_debug_data_of object.now (section_at object.now position) }
 {
     match object.sections().get(position) {
