@@ -7,7 +7,7 @@ use Rattle.std.proofs.lemmas.Bool.{eqb-true, false_from_ne_true, false≢true, c
 use Rattle.std.proofs.lemmas.Map.Keys.{IsDistinct-cons}
 use Rattle.std.proofs.lemmas.Map.Steps.{length-le_from_distinct_below}
 use Rattle.std.proofs.lemmas.List.{length-set}
-use Rattle.elf_table_hash.specs.ChainDepths.{AreDepths, AreJumps, AreSeen, AreStarts, IsDepthKnown, IsAmongSymbols, Leads}
+use Rattle.elf_table_hash.specs.ChainDepths.{AreDepths, AreJumps, AreStarts, IsDepthKnown, IsAmongSymbols, Leads}
 use Rattle.elf_table_hash.specs.HashTable.{Ends, IsChain, IsOn, IsPath}
 
 -- From a word there is at most one chain, by induction on it (`one_chain`). So no symbol is on a chain twice, and a path that comes back to
@@ -146,9 +146,9 @@ chain_short next m a xs below within chain =
     let le : length (0 ∷ xs) ≤ m = length-le_from_distinct_below (0 ∷ xs) m apart inside in
     omega arith
 
--- Depths, jumps, starts and seen marks stay right with one more symbol, whose depth is one more than its chain word's. If a known chain
+-- Depths, jumps and starts stay right with one more symbol, whose depth is one more than its chain word's. If a known chain
 -- leads to `t`, a symbol on it that is no deeper than `t` is on the chain of `t` (`on_after`). One as deep as the start is the start
--- (`on_same`), and a waiting symbol that is met again shows an endless chain.
+-- (`on_same`).
 
 -- 0 has no chain
 pub zero_depth : (next : ℕ → ℕ) (m : ℕ) (depth : List ℕ) → AreDepths next m depth → get_or depth 0 0 ≡ 0
@@ -325,56 +325,6 @@ starts_more next m depth starts a d start are leads within =
 pub leads_join : (next : ℕ → ℕ) (a b c : ℕ) → Leads next a b → Leads next b c → Leads next a c
 leads_join next a b c (xs, front) (ys, back) = (xs ++ ys, path_append next a b c xs ys front back)
 
--- ---- symbols that were seen
-
--- the last one of a stack, or one of the others
-pub in_push : (stack : List ℕ) (a t : ℕ) → IsAmongSymbols (stack ++ a ∷ []) t → (t ≡ a) ⊎ IsAmongSymbols stack t
-in_push [] a t ([], after, same) = inl (let head : t ≡ a = cc in head)
-in_push [] a t (b ∷ [], after, same) = absurd (let long = ap (λ (ws : List ℕ). length ws) same in omega arith)
-in_push [] a t (b ∷ (d ∷ before), after, same) = absurd (let long = ap (λ (ws : List ℕ). length ws) same in omega arith)
-in_push (r ∷ stack) a t ([], after, same) = inr ([], stack, (let head : r ≡ t = cc in ap (λ k. k ∷ stack) head))
-in_push (r ∷ stack) a t (b ∷ before, after, same) =
-    let tails : stack ++ a ∷ [] ≡ before ++ t ∷ after = cc in
-    elim (in_push stack a t (before, after, tails)) [
-      | inl last ↦ inl last
-      | inr (front, back, is) ↦ inr (r ∷ front, back, ap (λ ws. r ∷ ws) is)
-    ]
-
--- one more that waits
-pub seen_more : (m : ℕ) (depth stack : List ℕ) (seen : List Bool) (s : ℕ) → AreSeen m depth stack seen → s < m →
-    AreSeen m depth (stack ++ s ∷ []) (set seen s true)
-seen_more m depth stack seen s are within = record {
-  long = length-set seen s true ∙ are.long;
-  waits = λ t marked. elim (cases_eq t s) [
-    | inl same ↦ inr (stack, [], ap (λ k. stack ++ k ∷ []) (sym same))
-    | inr other ↦ (let old = rw get_or-set_other at marked in elim (are.waits t old) [
-      | inl deep ↦ inl deep
-      | inr (before, after, is) ↦ inr (before, after ++ s ∷ [], ap (λ ws. ws ++ s ∷ []) is ∙ append_assoc before (t ∷ after) (s ∷ []))
-    ])
-  ];
-}
-
--- one that is met again: the chain goes round
-pub seen_twice : (next : ℕ → ℕ) (m start s : ℕ) (depth stack : List ℕ) (seen : List Bool) → AreSeen m depth stack seen →
-    IsPath next start stack s →
-    get_or seen s false ≡ true → get_or depth s 0 ≡ 0 → ¬ Ends next start
-seen_twice next m start s depth stack seen are path marked none (xs, chain) =
-    elim (are.waits s marked) [
-      | inl deep ↦ (let h = deep in omega arith)
-      | inr (before, after, is) ↦ (
-          let (some, front, back) = path_at next start s s before after (subst (λ ws. IsPath next start ws s) is path) in
-          no_circle next s s after (some, refl, back) (endless next start s stack xs path chain))
-    ]
-
--- all that waited are known
-pub seen_settled : (m : ℕ) (old depth stack : List ℕ) (seen : List Bool) → AreSeen m old stack seen →
-    ((s : ℕ) → 0 < get_or old s 0 → 0 < get_or depth s 0) → ((s : ℕ) → IsAmongSymbols stack s → 0 < get_or depth s 0) →
-    AreSeen m depth [] seen
-seen_settled m old depth stack seen are kept settled = record {
-  long = are.long;
-  waits = λ s marked. elim (are.waits s marked) [ inl deep ↦ inl (kept s deep) | inr waits ↦ inl (settled s waits) ];
-}
-
 pub known_kept : (old depth : List ℕ) (s : ℕ) → ((s : ℕ) → 0 < get_or old s 0 → 0 < get_or depth s 0) → IsDepthKnown old s →
     IsDepthKnown depth s
 known_kept old depth s kept (inl none) = inl none
@@ -396,15 +346,20 @@ walk next (suc n) s =
     ]
 
 -- one that goes on after as many steps as there are symbols does not end
+pub long_endless : (next : ℕ → ℕ) (m s t : ℕ) (xs : List ℕ) → ((k : ℕ) → k < m → next k < m) → s < m → IsPath next s xs t → m ≤ length xs →
+    ¬ Ends next s
+long_endless next m s t xs below within path long ends =
+    let (ys, rest) = endless next s t xs ends.0 path ends.1 in
+    let short = chain_short next m s (xs ++ ys) below within (path_append next s t 0 xs ys path rest) in
+    let sum = length-append xs ys in
+    omega arith
+
+-- so it can be decided
 pub ends_or_not : (next : ℕ → ℕ) (m s : ℕ) → ((k : ℕ) → k < m → next k < m) → s < m → Ends next s ⊎ (Ends next s → ⊥)
 ends_or_not next m s below within =
     elim (walk next m s) [
       | inl ends ↦ inl ends
-      | inr (xs, t, path, long) ↦ inr (λ ends. (
-          let (ys, rest) = endless next s t xs ends.0 path ends.1 in
-          let short = chain_short next m s (xs ++ ys) below within (path_append next s t 0 xs ys path rest) in
-          let sum = length-append xs ys in
-          omega arith))
+      | inr (xs, t, path, long) ↦ inr (long_endless next m s t xs below within path (omega arith))
     ]
 
 in_or_not : (xs : List ℕ) (s : ℕ) → IsAmongSymbols xs s ⊎ (IsAmongSymbols xs s → ⊥)

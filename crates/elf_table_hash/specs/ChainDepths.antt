@@ -38,11 +38,6 @@ pub record AreStarts (next : ℕ → ℕ) (m : ℕ) (depth starts : List ℕ) : 
 abbrev pub IsAmongSymbols : List ℕ → ℕ → Type 0
 IsAmongSymbols symbols s = (before after : List ℕ) × (symbols ≡ before ++ s ∷ after)
 
--- each symbol that was seen is known, or waits on the stack
-pub record AreSeen (m : ℕ) (depth stack : List ℕ) (seen : List Bool) : Type 0 where
-  pub long : length seen ≡ m
-  pub waits : (s : ℕ) → get_or seen s false ≡ true → (0 < get_or depth s 0) ⊎ IsAmongSymbols stack s
-
 -- Chains as they are made, from the last symbol down: `next` gives the chain word of each symbol, `head` the word of each bucket, and
 -- `home` the bucket of each symbol.
 
@@ -71,10 +66,11 @@ threaded words s b = slice_set (slice_set words (2 + nbucket words + s) (bucket 
 
 -- the jumps and the starts are ways to a chain, and no part of it
 abbrev pub chains_value : Inside → ChainsValue
-chains_value k = record { words = k.words.now; depth = k.depth.items }
+chains_value k = record { words = k.words.now; depth = k.depth.now }
 
-pub record AreKnownChains (k : Inside) : Type 0 where
-  pub linked : AreHashWords k.words.now
-  pub depths : AreDepths (chain k.words.now) (nchain k.words.now) k.depth.items
-  pub jumps : AreJumps (chain k.words.now) (nchain k.words.now) k.jump.items
-  pub starts : AreStarts (chain k.words.now) (nchain k.words.now) k.depth.items k.starts.items
+-- what the lists say of the chains of these words is right
+pub record AreKnownChains (words depth jump met : List ℕ) : Type 0 where
+  pub linked : AreHashWords words
+  pub depths : AreDepths (chain words) (nchain words) depth
+  pub jumps : AreJumps (chain words) (nchain words) jump
+  pub starts : AreStarts (chain words) (nchain words) depth met

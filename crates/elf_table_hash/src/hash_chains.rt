@@ -3,16 +3,16 @@
 //! Chains may share their tails, so that walking each of them to its end could take the number of buckets times the number of
 //! symbols. The walks here stop where the chain's length is known, and go back over the symbols that are new: each
 //! symbol is met once. Whether a symbol is on a chain is asked by jumps down it, of which a few lead to any place.
-ghost use Rattle.std.specs.Prelude.{◌≡◌, ◌≢◌, ◌↔◌, ◌<◌, ◌≤◌, ◌+◌, ◌*◌, ℕ, [], None, IfOk, IfNone, IfSome, IsSome, IsTrue, length, get_or};
+//!
+//! What is known is in three lists of a word for each symbol, and a fourth has the symbols of a walk. The caller lends them.
+ghost use Rattle.std.specs.Prelude.{◌≡◌, ◌≢◌, ◌↔◌, ◌<◌, ◌≤◌, ◌+◌, ◌*◌, ℕ, None, IfNone, IfSome, IsTrue, length, get_or, take};
 ghost use Rattle.std.specs.Prelude.{slice_set};
 ghost use Rattle.elf_extent.specs.Extent.{IsLowest};
-ghost use Rattle.elf_image_rules.specs.Rules.{MAX_LEN};
 ghost use Rattle.elf_table_symbols.specs.Sections.{Below};
-ghost use Rattle.elf_table_hash.specs.ChainDepths.{AreDepths, AreSeen, IsDepthKnown, IsAmongSymbols, Leads};
+ghost use Rattle.elf_table_hash.specs.ChainDepths.{AreDepths, AreKnownChains, IsDepthKnown, Leads};
 ghost use Rattle.elf_table_hash.specs.HashTable.{Ends, IsOn, IsPath, AreHashWords, bucket, chain, nbucket, nchain};
 
 use crate::hash_words::HashWords;
-use std::alloc::{AllocError, Global};
 use std::marker::Model;
 
 // What is known of a symbol's chain.
@@ -33,11 +33,11 @@ struct Known {
 pub(crate) struct KnownChains<'w, 'a> {
     words: &'w HashWords<'a>,
     // For each symbol the length of its chain, 0 if that isn't known.
-    depth: Vec<u32>,
+    depth: &'w [u32],
     // A symbol that its chain leads to, or itself.
-    jump: Vec<u32>,
+    jump: &'w [u32],
     // The word that it was first met from.
-    starts: Vec<u32>,
+    starts: &'w [u32],
 }
 
 impl<'w, 'a> Model for KnownChains<'w, 'a> {
@@ -49,124 +49,53 @@ impl<'w, 'a> Model for KnownChains<'w, 'a> {
 
     ghost view = { chains_value };
 
-    ghost invariant = { AreKnownChains };
+    ghost invariant = { λ k. AreKnownChains k.words.now k.depth.now k.jump.now k.starts.now };
 }
 
 impl<'w, 'a> KnownChains<'w, 'a> {
-    /// The chains of these words, of which none is known.
+    /// The chains of these words, by what the lists say of them.
     pub(crate) fn new(
-        alloc: Global,
         words: &'w HashWords<'a>,
-    ) -> Result<KnownChains<'w, 'a>, AllocError>
-        requires { AreHashWords words.now }
-        ensures { IfOk result (λ chains. chains.words ≡ words.entry.now) }
+        depth: &'w [u32],
+        jump: &'w [u32],
+        starts: &'w [u32],
+    ) -> KnownChains<'w, 'a>
+        requires { AreKnownChains words.now depth.now jump.now starts.now }
+        ensures words { result.words ≡ words.entry.now }
+        ensures depth { result.depth ≡ depth.entry.now }
     {
-        let symbols = words.nchain();
-        let mut depth = Vec::new(alloc);
-        depth.resize(symbols as usize, 0)?;
-        let jump = numbers(alloc, symbols)?;
-        let mut starts = Vec::new(alloc);
-        starts.resize(symbols as usize, 0)?;
-        Ok(KnownChains {
+        KnownChains {
             words,
             depth,
             jump,
             starts,
-        })
-    }
-
-    /// The first bucket whose chain does not end. Where there is none, all chains are known.
-    pub(crate) fn lowest_endless(
-        &mut self,
-        seen: &mut [bool],
-        stack: &mut Vec<u32>,
-    ) -> Result<Option<u32>, AllocError>
-        requires seen { AreSeen (nchain self.old.words) self.old.depth [] seen.old }
-        requires empty { stack.old.items ≡ [] }
-        ensures words { IfOk result (λ _. self.new.words ≡ self.old.words) }
-        ensures lowest { let words = self.old.words in
-            IfOk result (IsLowest (Below (nbucket words) (λ b. ¬ Ends (chain words) (bucket words b)))) }
-        ensures known { let words = self.old.words in
-            IfOk result (λ found. IfNone found ((b : ℕ) → b < nbucket words → IsDepthKnown self.new.depth (bucket words b))) }
-    {
-        let words = self.words;
-        for b in 0..words.nbucket() {
-            self.prove_known();
-            let start = words.bucket(b);
-            match self.climb(start, seen, stack)? {
-                Some(top) => self.settle(stack, start, top),
-                None => return Ok(Some(b)),
-            }
         }
-        self.prove_known();
-        Ok(None)
     }
 
-    // Down the chain of `start` to the first symbol whose chain is known, or to its end; the symbols before it are put on the
-    // stack. None if the chain comes back to one of them.
-    fn climb(
-        &self,
-        start: u32,
-        seen: &mut [bool],
-        stack: &mut Vec<u32>,
-    ) -> Result<Option<u32>, AllocError>
+    // Down the chain of `start` to the first symbol whose chain is known, or to its end; the symbols before it are put into the first
+    // places of `path`, and their number is returned with it. None if the chain does not end.
+    fn climb(&self, start: u32, path: &mut [u32]) -> Option<(u32, usize)>
         requires start { start < nchain self.now.words }
-        requires seen { AreSeen (nchain self.now.words) self.now.depth [] seen.old }
-        requires empty { stack.old.items ≡ [] }
-        ensures seen { IfOk result (λ found. IsSome found → AreSeen (nchain self.now.words) self.now.depth stack.new.items seen.new) }
-        ensures path { IfOk result (λ found. IfSome found (λ top. IsPath (chain self.now.words) start stack.new.items top)) }
-        ensures known { IfOk result (λ found. IfSome found (λ top. IsDepthKnown self.now.depth top)) }
-        ensures inside { IfOk result (λ found. IfSome found (λ top. top < nchain self.now.words)) }
-        ensures endless { IfOk result (λ found. IfNone found (¬ Ends (chain self.now.words) start)) }
+        requires room { nchain self.now.words ≤ length path.old }
+        ensures path { IfSome result (λ found. IsPath (chain self.now.words) start (take found.1 path.new) found.0) }
+        ensures few { IfSome result (λ found. found.1 ≤ length path.new) }
+        ensures known { IfSome result (λ found. IsDepthKnown self.now.depth found.0) }
+        ensures endless { IfNone result (¬ Ends (chain self.now.words) start) }
+        ensures long { length path.new ≡ length path.old }
     {
+        self.prove_known();
+        let symbols = self.words.nchain() as usize;
         let mut s = start;
+        let mut count = 0;
         'steps: while s != 0 && self.at(s).depth == 0 {
-            if seen[s as usize] {
-                return Ok(None);
+            if count >= symbols {
+                return None;
             }
-            seen[s as usize] = true;
-            stack.push(s)?;
+            path[count] = s;
+            count += 1;
             s = self.at(s).next;
         }
-        Ok(Some(s))
-    }
-
-    // Notes the chains of the symbols on the stack, which lead from `start` to `top`, whose chain is known.
-    fn settle(&mut self, stack: &mut Vec<u32>, start: u32, top: u32)
-        requires start { start < nchain self.old.words }
-        requires path { IsPath (chain self.old.words) start stack.old.items top }
-        requires known { IsDepthKnown self.old.depth top }
-        ensures words { self.new.words ≡ self.old.words }
-        ensures kept { (s : ℕ) → 0 < get_or self.old.depth s 0 → 0 < get_or self.new.depth s 0 }
-        ensures settled { (s : ℕ) → IsAmongSymbols stack.old.items s → 0 < get_or self.new.depth s 0 }
-        ensures start { IsDepthKnown self.new.depth start }
-        ensures empty { stack.new.items ≡ [] }
-    {
-        let mut s = top;
-        'steps: while let Some(above) = stack.pop() {
-            self.note(above, s, start);
-            s = above;
-        }
-    }
-
-    // Notes the chain of symbol `above`, which was met from `start`, and whose chain word is `s`, whose chain is known.
-    fn note(&mut self, above: u32, s: u32, start: u32)
-        requires some { above ≢ 0 }
-        requires start { start < nchain self.old.words }
-        requires next { chain self.old.words above ≡ s }
-        requires known { IsDepthKnown self.old.depth s }
-        requires leads { Leads (chain self.old.words) start above }
-        ensures words { self.new.words ≡ self.old.words }
-        ensures depth { self.new.depth ≡ slice_set self.old.depth above (get_or self.old.depth s 0 + 1) }
-        ensures inside { above < length self.old.depth }
-    {
-        let far = self.far_of(s);
-        // A chain has fewer symbols than there are, and their number is one of 32 bits.
-        let _ = self.words.nchain();
-        let depth = self.at(s).depth + 1;
-        self.depth[above as usize] = depth;
-        self.jump[above as usize] = far;
-        self.starts[above as usize] = start;
+        Some((s, count))
     }
 
     // The jump of a symbol whose chain word is `s`: two jumps of one length from `s` on become one, else it leads to `s` alone.
@@ -256,14 +185,123 @@ impl<'w, 'a> KnownChains<'w, 'a> {
     }
 }
 
-// The numbers below `n`: a jump of each symbol to itself.
-fn numbers(alloc: Global, n: u32) -> Result<Vec<u32>, AllocError>
-    ensures long { IfOk result (λ all. length all.items ≡ n) }
-    ensures each { IfOk result (λ all. (k : ℕ) → k < n → get_or all.items k 0 ≡ k) }
+/// The lists at the beginning: no chain is known, and each symbol's jump is itself.
+pub(crate) fn begin(words: &HashWords<'_>, depth: &mut [u32], jump: &mut [u32], starts: &[u32])
+    requires words { AreHashWords words.now }
+    requires depth { length depth.old ≡ nchain words.now }
+    requires jump { length jump.old ≡ nchain words.now }
+    requires starts { length starts.now ≡ nchain words.now }
+    ensures { AreKnownChains words.now depth.new jump.new starts.now }
 {
-    let mut all = Vec::new(alloc);
-    for k in 0..n {
-        all.push(k)?;
+    for k in 0..words.nchain() {
+        depth[k as usize] = 0;
+        jump[k as usize] = k;
     }
-    Ok(all)
+    let _ = starts;
+}
+
+/// The first bucket whose chain does not end. Where there is none, all chains are known.
+pub(crate) fn lowest_endless(
+    words: &HashWords<'_>,
+    depth: &mut [u32],
+    jump: &mut [u32],
+    starts: &mut [u32],
+    path: &mut [u32],
+) -> Option<u32>
+    requires words { AreHashWords words.now }
+    requires lists { AreKnownChains words.now depth.old jump.old starts.old }
+    requires room { nchain words.now ≤ length path.old }
+    ensures lowest { IsLowest (Below (nbucket words.now) (λ b. ¬ Ends (chain words.now) (bucket words.now b))) result }
+    ensures known { IfNone result ((b : ℕ) → b < nbucket words.now → IsDepthKnown depth.new (bucket words.now b)) }
+    ensures lists { AreKnownChains words.now depth.new jump.new starts.new }
+    ensures path { length path.new ≡ length path.old }
+{
+    for b in 0..words.nbucket() {
+        let start = words.bucket(b);
+        let Some((top, count)) = climb_from(words, depth, jump, starts, start, path) else {
+            return Some(b);
+        };
+        settle(words, depth, jump, starts, &path[..count], start, top);
+    }
+    None
+}
+
+// Down the chain of `start`, as `KnownChains::climb`, by what the lists say.
+fn climb_from(
+    words: &HashWords<'_>,
+    depth: &[u32],
+    jump: &[u32],
+    starts: &[u32],
+    start: u32,
+    path: &mut [u32],
+) -> Option<(u32, usize)>
+    requires lists { AreKnownChains words.now depth.now jump.now starts.now }
+    requires start { start < nchain words.now }
+    requires room { nchain words.now ≤ length path.old }
+    ensures path { IfSome result (λ found. IsPath (chain words.now) start (take found.1 path.new) found.0) }
+    ensures few { IfSome result (λ found. found.1 ≤ length path.new) }
+    ensures known { IfSome result (λ found. IsDepthKnown depth.now found.0) }
+    ensures endless { IfNone result (¬ Ends (chain words.now) start) }
+    ensures long { length path.new ≡ length path.old }
+{
+    KnownChains::new(words, depth, jump, starts).climb(start, path)
+}
+
+// Notes the chains of the symbols on the path, which leads from `start` to `top`, whose chain is known.
+fn settle(
+    words: &HashWords<'_>,
+    depth: &mut [u32],
+    jump: &mut [u32],
+    starts: &mut [u32],
+    path: &[u32],
+    start: u32,
+    top: u32,
+)
+    requires words { AreHashWords words.now }
+    requires lists { AreKnownChains words.now depth.old jump.old starts.old }
+    requires start { start < nchain words.now }
+    requires path { IsPath (chain words.now) start path.now top }
+    requires known { IsDepthKnown depth.old top }
+    ensures kept { (s : ℕ) → 0 < get_or depth.old s 0 → 0 < get_or depth.new s 0 }
+    ensures start { IsDepthKnown depth.new start }
+    ensures lists { AreKnownChains words.now depth.new jump.new starts.new }
+{
+    let mut s = top;
+    let mut left = path.len();
+    'steps: while left > 0 {
+        left -= 1;
+        let above = path[left];
+        note(words, depth, jump, starts, above, s, start);
+        s = above;
+    }
+}
+
+// Notes the chain of symbol `above`, which was met from `start`, and whose chain word is `s`, whose chain is known.
+fn note(
+    words: &HashWords<'_>,
+    depth: &mut [u32],
+    jump: &mut [u32],
+    starts: &mut [u32],
+    above: u32,
+    s: u32,
+    start: u32,
+)
+    requires lists { AreKnownChains words.now depth.old jump.old starts.old }
+    requires some { above ≢ 0 }
+    requires start { start < nchain words.now }
+    requires next { chain words.now above ≡ s }
+    requires known { IsDepthKnown depth.old s }
+    requires leads { Leads (chain words.now) start above }
+    ensures depth { depth.new ≡ slice_set depth.old above (get_or depth.old s 0 + 1) }
+    ensures inside { above < length depth.old }
+    ensures lists { AreKnownChains words.now depth.new jump.new starts.new }
+{
+    let chains = KnownChains::new(words, depth, jump, starts);
+    let far = chains.far_of(s);
+    // A chain has fewer symbols than there are, and their number is one of 32 bits.
+    let _ = words.nchain();
+    let deep = chains.at(s).depth + 1;
+    depth[above as usize] = deep;
+    jump[above as usize] = far;
+    starts[above as usize] = start;
 }

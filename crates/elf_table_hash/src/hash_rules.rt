@@ -1,17 +1,17 @@
 //! Rules 65 to 69 of a hash table, and all of its rules (gABI chapter 5, Hash Table).
-ghost use Rattle.std.specs.Prelude.{◌≡◌, ◌≢◌, ◌≤◌, ◌<◌, ◌+◌, ◌*◌, OnOk, length, get_or, ⊤, ℕ, None, Some, List, IfOk, []};
+ghost use Rattle.std.specs.Prelude.{◌≡◌, ◌≢◌, ◌≤◌, ◌<◌, ◌+◌, ◌*◌, OnOk, length, get_or, ⊤, ℕ, None, Some, List, IfNone, IfOk};
 ghost use Rattle.elf_extent.specs.Extent.{IsLowest};
 ghost use Rattle.elf_image_rules.specs.Rows.{fault_of, FirstIn};
 ghost use Rattle.elf_table_hash.specs.HashRules.{hash_parts_value, hash_word_past_end, word_rules, hash_parts, chain_rules, hash_rules};
-ghost use Rattle.elf_table_hash.specs.HashRules.{hash_table_front, hash_table_rules, symbol_off_chain};
+ghost use Rattle.elf_table_hash.specs.HashRules.{endless_chain, hash_table_front, hash_table_rules, symbol_off_chain};
 ghost use Rattle.elf_table_hash.specs.HashTable.{AreHashWords, bucket, bucket_of, hash_of, name_of, nbucket, nchain};
 ghost use Rattle.elf_table_symbols.specs.Verdicts.{IsTestedAfter};
 ghost use Rattle.elf_table_symbols.specs.Symbols.{AreKnown, symbol_table_rules};
 ghost use Rattle.elf_table_symbols.specs.Sections.{content, own_rules, section, sections_seen};
-ghost use Rattle.elf_table_hash.specs.ChainDepths.{IsDepthKnown};
+ghost use Rattle.elf_table_hash.specs.ChainDepths.{AreKnownChains, IsDepthKnown};
 
 use crate::hash_building::elf_hash;
-use crate::hash_chains::KnownChains;
+use crate::hash_chains::{KnownChains, begin, lowest_endless};
 use crate::hash_parts::HashParts;
 use crate::name_hashes::NameHashes;
 use elf_field::abi::*;
@@ -109,8 +109,10 @@ fn validate_hash(
     Ok(verdict?)
 }
 
+// How many words the test of chains takes for each symbol: three lists and a path.
+const CHAIN_WORDS: usize = 4;
+
 // Rules 68 and 69.
-#[tactic(auto, unfolding(crate::specs::HashRules::chain_rules))]
 fn validate_chains(
     alloc: Global,
     parts: &HashParts<'_>,
@@ -123,18 +125,63 @@ fn validate_chains(
     ensures verdict { IfOk result (λ verdict. FirstIn (chain_rules (hash_parts_value parts.now)) (fault_of verdict)) }
     ensures image { hashes.new ≡ hashes.old }
 {
-    let symbols = parts.words.nchain();
-    let mut chains = KnownChains::new(alloc, &parts.words)?;
-    let mut seen = Vec::new(alloc);
-    seen.resize(symbols as usize, false)?;
-    let mut stack = Vec::new(alloc);
-    if let Some(b) = chains.lowest_endless(&mut seen, &mut stack)? {
-        let at = parts.start + WORD_SIZE * (2 + b as u64);
+    let mut room = Vec::new(alloc);
+    room.resize(CHAIN_WORDS * parts.words.nchain() as usize, 0)?;
+    validate_chains_by(alloc, parts, hashes, &mut room)
+}
+
+// The same, with words to write into.
+#[tactic(auto, unfolding(crate::specs::HashRules::chain_rules))]
+fn validate_chains_by(
+    alloc: Global,
+    parts: &HashParts<'_>,
+    hashes: &mut NameHashes<'_, '_>,
+    room: &mut [u32],
+) -> Result<Result<(), Broken<u64>>, AllocError>
+    requires some_bucket { nbucket parts.now.words ≢ 0 }
+    requires one_each { nchain parts.now.words ≡ length parts.now.names }
+    requires linked { AreHashWords parts.now.words }
+    requires own_strings { parts.now.strings.now ≡ content hashes.old parts.now.strings_index }
+    requires room { 4 * nchain parts.now.words ≤ length room.old }
+    ensures verdict { IfOk result (λ verdict. FirstIn (chain_rules (hash_parts_value parts.now)) (fault_of verdict)) }
+    ensures image { hashes.new ≡ hashes.old }
+{
+    let symbols = parts.words.nchain() as usize;
+    let (depth, rest) = room.split_at_mut(symbols);
+    let (jump, rest) = rest.split_at_mut(symbols);
+    let (starts, path) = rest.split_at_mut(symbols);
+    if let Some(at) = lowest_endless_chain(parts, depth, jump, starts, path) {
         return Ok(Err(Broken::new(ENDLESS_CHAIN, at)));
     }
+    let chains = KnownChains::new(&parts.words, depth, jump, starts);
     match lowest_symbol_off_chain(alloc, parts, &chains, hashes)? {
         Some(at) => Ok(Err(Broken::new(SYMBOL_OFF_CHAIN, at))),
         None => Ok(Ok(())),
+    }
+}
+
+/// The lowest offset in the file of the word of a bucket whose chain does not end. Where there is none, all chains are known.
+pub(crate) fn lowest_endless_chain(
+    parts: &HashParts<'_>,
+    depth: &mut [u32],
+    jump: &mut [u32],
+    starts: &mut [u32],
+    path: &mut [u32],
+) -> Option<u64>
+    requires linked { AreHashWords parts.now.words }
+    requires depth { length depth.old ≡ nchain parts.now.words }
+    requires jump { length jump.old ≡ nchain parts.now.words }
+    requires starts { length starts.old ≡ nchain parts.now.words }
+    requires path { nchain parts.now.words ≤ length path.old }
+    ensures lowest { IsLowest (endless_chain (hash_parts_value parts.now)) result }
+    ensures known { IfNone result ((b : ℕ) → b < nbucket parts.now.words → IsDepthKnown depth.new (bucket parts.now.words b)) }
+    ensures lists { AreKnownChains parts.now.words depth.new jump.new starts.new }
+    ensures path { length path.new ≡ length path.old }
+{
+    begin(&parts.words, depth, jump, starts);
+    match lowest_endless(&parts.words, depth, jump, starts, path) {
+        Some(b) => Some(parts.start + WORD_SIZE * (2 + b as u64)),
+        None => None,
     }
 }
 

@@ -13,11 +13,13 @@ mod hash_building;
 mod hash_chains;
 mod hash_lanes;
 mod hash_parts;
+mod hash_room;
 mod hash_rules;
 mod hash_words;
 mod name_hashes;
 
 pub use hash::{Hash, HashIter, find_in, sound_hash};
 pub use hash_building::{HashFault, build_hash, elf_hash};
+pub use hash_room::validate_hash_table_in;
 pub use hash_rules::validate_hash_table;
 pub use name_hashes::NameHashes;

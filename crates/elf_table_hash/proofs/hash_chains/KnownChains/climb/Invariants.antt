@@ -1,16 +1,15 @@
-use Rattle.std.proofs.Common.{◌<◌, Bool, cond}
-use Rattle.std.specs.List.{sum_by}
-use Rattle.elf_table_hash.specs.ChainDepths.{AreSeen}
+use Rattle.std.proofs.Common.{◌≡◌, ◌≤◌, ◌<◌, ◌-◌, length, take}
 use Rattle.elf_table_hash.specs.HashTable.{IsPath, chain, nchain}
 use Rattle.elf_table_hash.proofs.hash_chains.KnownChains.climb.Given as goal
 
 abbrev pub invariant-steps : goal.invariant-steps
 invariant-steps l = record {
-  seen : AreSeen (nchain l.self.words) l.self.depth l.stack.items l.seen;
-  path : IsPath (chain l.self.words) l.start l.stack.items l.s;
+  path : IsPath (chain l.self.words) l.start (take l.count l.path) l.s;
   inside : l.s < nchain l.self.words;
+  few : l.count ≤ nchain l.self.words;
+  long : length l.path ≡ length l.initial.path;
 }
 
--- the symbols that were not seen yet
+-- the steps that are left
 abbrev pub decreases-steps : goal.decreases-steps
-decreases-steps l = sum_by (λ (b : Bool). cond b 0 1) l.seen
+decreases-steps l = nchain l.self.words - l.count
