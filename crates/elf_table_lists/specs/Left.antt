@@ -18,5 +18,5 @@ dynamic_left it = drop it.next it.dynamic.now
 
 -- The relocations that an iterator over them has left.
 
-abbrev pub relocations_left : RelocIter → List Relocation
-relocations_left it = drop it.next it.relocs.now
+abbrev pub relocs_left : RelocIter → List Relocation
+relocs_left it = drop it.next it.relocs.now

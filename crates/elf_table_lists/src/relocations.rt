@@ -9,7 +9,7 @@ ghost use Rattle.elf_image_rules.specs.Rows.{fault_of, AtEntry, FirstIn};
 ghost use Rattle.elf_table_symbols.specs.Symbols.{AreKnown};
 ghost use Rattle.elf_table_symbols.specs.Sections.{sections_of, sections_seen};
 ghost use Rattle.elf_table_symbols.specs.Verdicts.{IsValidated, IsOnlyValidated, OfItsFile};
-ghost use Rattle.elf_table_lists.specs.Left.{relocations_left};
+ghost use Rattle.elf_table_lists.specs.Left.{relocs_left};
 
 use elf_field::abi::*;
 use elf_field::{Order, Rel, Rela, get_at};
@@ -214,7 +214,7 @@ impl<'a> Relocs<'a> {
 
     /// The relocations in order.
     pub fn iter(&self) -> RelocIter<'_, 'a>
-        ensures { relocations_left result ≡ self.now }
+        ensures { relocs_left result ≡ self.now }
     {
         RelocIter {
             relocs: self,
@@ -244,7 +244,7 @@ impl<'s, 'a> IntoIterator for &'s Relocs<'a> {
 
     type IntoIter = RelocIter<'s, 'a>;
 
-    ghost into_iter_gives = { λ table r. relocations_left r ≡ table.now };
+    ghost into_iter_gives = { λ table r. relocs_left r ≡ table.now };
 
     fn into_iter(self) -> RelocIter<'s, 'a> {
         self.iter()
@@ -260,13 +260,13 @@ pub struct RelocIter<'s, 'a> {
 
 impl<'s, 'a> Iterator for RelocIter<'s, 'a> {
     ghost use Rattle.std.specs.Iterator.{YieldsFirst, item_count};
-    ghost use Rattle.elf_table_lists.specs.Left.{relocations_left};
+    ghost use Rattle.elf_table_lists.specs.Left.{relocs_left};
 
     type Item = Relocation;
 
-    ghost next_gives = { YieldsFirst relocations_left };
+    ghost next_gives = { YieldsFirst relocs_left };
 
-    ghost remaining = { item_count relocations_left };
+    ghost remaining = { item_count relocs_left };
 
     fn next(&mut self) -> Option<Relocation> {
         if self.next >= self.relocs.len() {

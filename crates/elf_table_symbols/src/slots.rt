@@ -1,7 +1,7 @@
 //! Verdicts on tables in slots that a caller lends, one for each section.
 ghost use Rattle.std.specs.Prelude.{◌≡◌, ◌≢◌, ◌+◌, ◌-◌, ◌<◌, ◌≤◌, IfSome, length};
 ghost use Rattle.elf_image_rules.specs.Rows.{fault_of};
-ghost use Rattle.elf_table_symbols.specs.Slots.{IsKept, fault_in_slot, fault_slot, slot_at};
+ghost use Rattle.elf_table_symbols.specs.Slots.{IsKept, fault_in_slot, verdict_slot, verdict_slot_at};
 
 use elf_image_rules::Broken;
 
@@ -21,7 +21,7 @@ pub const LEFT_OUT: u16 = 0xffff;
 impl TableFault {
     /// A verdict as a slot.
     pub fn new(verdict: Result<(), Broken<u64>>) -> TableFault
-        ensures { result ≡ fault_slot (fault_of verdict) }
+        ensures { result ≡ verdict_slot (fault_of verdict) }
     {
         match verdict {
             Ok(()) => TableFault { at: 0, rule: 0 },

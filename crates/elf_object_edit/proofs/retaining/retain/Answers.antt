@@ -1,3 +1,4 @@
+-- The marks are the results of the closure, so the object that `without` returns is the one without the sections that it rejects.
 use Rattle.std.proofs.Common.{◌≡◌, Bool, IfOk, List, subst, sym, ◌∙◌}
 use Rattle.std.specs.Prelude.{IfErr, OnOk}
 use Rattle.elf_object_edit.proofs.Retained.{rejected_fail, retained_by_results}

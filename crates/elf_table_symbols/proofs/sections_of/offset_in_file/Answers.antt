@@ -1,3 +1,4 @@
+-- Each section header lies in the file: the file of validated records has room for the whole table.
 use Rattle.std.proofs.Common.{◌<◌, ◌≤◌, ◌+◌, ◌*◌, ℕ, arith, length, refl, subst, sym}
 use Rattle.elf_field.specs.Abi.{SHDR_SIZE}
 use Rattle.elf_field.specs.declared.ehdr.Ehdr.{Ehdr}
