@@ -5,15 +5,14 @@
 ghost use Rattle.std.specs.Prelude.{ℕ, [], ◌∷◌, IfOk, List, OnOk};
 ghost use Rattle.std.specs.Io.KnownBytes.{Appends};
 ghost use Rattle.elf_exec.specs.Executable.{LoadsLink, LoadsLinkOf, IsMemoryOf};
-ghost use Rattle.elf_link.specs.LinkMap.{IsLinkMap, LinkMapValue};
-ghost use Rattle.elf_link.specs.Linked.{IsSoundMap};
+ghost use Rattle.elf_link.specs.LinkMap.{IsLinkMap};
 ghost use Rattle.elf_object.specs.Object.{ObjectValue};
-ghost use Rattle.elf_tool.specs.ObjectFiles.{AreObjectFiles, IsObjectFile};
+ghost use Rattle.elf_tool.specs.ObjectFiles.{AreObjectFiles};
 
 use elf_exec::{prove_loaded, write_exec};
 use elf_image::parse;
-use elf_link::{Form, LinkMap, Options, Range, RelocRule, Width, map, relocate};
-use elf_object::{Object, object_of};
+use elf_link::{Form, Mapped, Options, Range, RelocRule, Width};
+use elf_tool::mapped_files;
 use std::alloc::Global;
 use std::process::ExitCode;
 use std::{env, fs, io};
@@ -39,114 +38,115 @@ fn main(rt: HostRuntime) -> io::Result<ExitCode> {
     };
     let first = fs::read(&rt, first.as_str())?;
     let second = fs::read(&rt, second.as_str())?;
-    let linked = link_files(&rt, &first, &second);
-    if let Err(why) = linked {
-        eprintln!(rt; "example_link: {why}")?;
+    match link(rt.alloc(), &OPTIONS, &first, &second, &mut rt.stdout()) {
+        Ok(Some(byte)) => eprintln!(rt; "the first byte of its memory: {byte:#x}")?,
+        Ok(None) => {}
+        Err(why) => {
+            eprintln!(rt; "example_link: {why}")?;
+            return Ok(ExitCode::from(1));
+        }
     }
-    Ok(ExitCode::from(linked.is_err() as u8))
+    Ok(ExitCode::from(0))
 }
 
-fn link_files(rt: &HostRuntime, first: &[u8], second: &[u8]) -> Result<(), &'static str> {
-    let alloc = rt.alloc();
-    link_two(alloc, &OPTIONS, first, second, &mut rt.stdout())?;
-    let objects = [object_in(alloc, first)?, object_in(alloc, second)?];
-    if let Some(byte) = byte_at(alloc, &OPTIONS, &objects, OPTIONS.base)? {
-        let _ = eprintln!(rt; "the first byte of its memory: {byte:#x}");
-    }
-    Ok(())
-}
-
-/// From the bytes of the two files to those of the executable.
-fn link_two<W: io::Write>(
+/// Writes the executable of the link of two files by these options. Returns the byte that it loads at the base, if there is one.
+fn link<W: io::Write>(
     alloc: Global,
     options: &Options<'_>,
     first: &[u8],
     second: &[u8],
     to: &mut W,
-) -> Result<(), &'static str>
-    // The files are objects, the map is the one that the options ask for, and what was written is the executable of this link: an image
-    // that loads its memory, with the map's entry as `e_entry`.
-    ensures { OnOk result ((objects : List ObjectValue) × AreObjectFiles (first.now ∷ second.now ∷ []) objects ×
-        ((map : LinkMapValue) × IsLinkMap options.now objects map × ((executable : List ℕ) ×
-        LoadsLink objects map RULES executable × Appends (W.contents to.old) (W.contents to.new) executable))) }
+) -> Result<Option<u8>, &'static str>
+    // The files are objects, and what was written is the executable of their link by these options: an image that loads its memory, with the
+    // value of the entry symbol as `e_entry`. What is returned is the byte of this memory.
+    ensures { IfOk result (λ found. (objects : List ObjectValue) × AreObjectFiles (first.now ∷ second.now ∷ []) objects ×
+        ((executable : List ℕ) × LoadsLinkOf options.now objects RULES executable ×
+        Appends (W.contents to.old) (W.contents to.new) executable ×
+        IsMemoryOf options.now objects RULES options.now.base found)) }
 {
-    let objects = [object_in(alloc, first)?, object_in(alloc, second)?];
-    let map = mapped(alloc, options, &objects)?;
-    link(alloc, &map, &objects, to)
+    let mapped = mapped(alloc, options, first, second)?;
+    let executable = executable(alloc, options, &mapped)?;
+    let found = byte_at_base(alloc, options, &mapped, &executable)?;
+    write_out(&executable, to)?;
+    Ok(found)
 }
 
-fn object_in(alloc: Global, bytes: &[u8]) -> Result<Object<'_>, &'static str>
-    ensures { IfOk result (IsObjectFile bytes.now) }
-{
-    let Ok(image) = parse(alloc, bytes) else {
-        return Err("a file is no ELF-64 file");
-    };
-    match object_of(alloc, &image) {
-        Ok(object) => Ok(object),
-        Err(_) => Err("a file is no object"),
-    }
-}
-
+/// The objects that the files are, with their link map.
 fn mapped<'a>(
     alloc: Global,
     options: &Options<'_>,
-    files: &[Object<'a>],
-) -> Result<LinkMap<'a>, &'static str>
-    ensures sound { IfOk result (IsSoundMap files.now) }
-    ensures map { IfOk result (IsLinkMap options.now files.now) }
+    first: &'a [u8],
+    second: &'a [u8],
+) -> Result<Mapped<'a>, &'static str>
+    ensures objects { IfOk result (λ mapped. AreObjectFiles (first.entry.now ∷ second.entry.now ∷ []) mapped.objects) }
+    ensures map { IfOk result (λ mapped. IsLinkMap options.now mapped.objects mapped.map) }
 {
-    let hasher = std::hash::BuildHasherDefault::<std::hash::FoldHasher>::new();
-    match map(alloc, files, options, hasher) {
-        Ok(map) => Ok(map),
-        Err(_) => Err("the objects can't be linked"),
+    match mapped_files(alloc, &[first, second], options) {
+        Ok(mapped) => Ok(mapped),
+        Err(_) => Err("the files can't be linked"),
     }
 }
 
-fn link<'l, 'a, W: io::Write>(
-    alloc: Global,
-    map: &'l LinkMap<'a>,
-    files: &'l [Object<'a>],
-    to: &mut W,
-) -> Result<(), &'static str>
-    requires { IsSoundMap files.now map.now }
-    // What was written is the executable of the link of these objects: an image that loads the memory of the link.
-    ensures { OnOk result ((executable : List ℕ) × LoadsLink files.now map.now RULES executable ×
-        Appends (W.contents to.old) (W.contents to.new) executable) }
-{
-    let Ok(linked) = relocate(alloc, map, files, &RULES) else {
-        return Err("a relocation can't be applied");
-    };
-    write_exec(alloc, &linked, to).map_err(|_| "the executable can't be written")
-}
-
-/// The executable's bytes.
-fn linked(
+/// The executable of objects by their map.
+fn executable(
     alloc: Global,
     options: &Options<'_>,
-    files: &[Object<'_>],
+    mapped: &Mapped<'_>,
 ) -> Result<Vec<u8>, &'static str>
-    ensures { IfOk result (λ executable. LoadsLinkOf options.now files.now RULES executable.items) }
+    requires { IsLinkMap options.now mapped.now.objects mapped.now.map }
+    ensures { IfOk result (λ executable. LoadsLinkOf options.now mapped.now.objects RULES executable.items) }
 {
     let mut executable = Vec::new(alloc);
-    let map = mapped(alloc, options, files)?;
-    link(alloc, &map, files, &mut executable)?;
+    write_linked(alloc, mapped, &mut executable)?;
     Ok(executable)
 }
 
-/// The byte that the executable, read as a file, has at an address: that of the memory of the link.
-fn byte_at(
+fn write_linked<W: io::Write>(
+    alloc: Global,
+    mapped: &Mapped<'_>,
+    to: &mut W,
+) -> Result<(), &'static str>
+    ensures { OnOk result ((executable : List ℕ) × LoadsLink mapped.now.objects mapped.now.map RULES executable ×
+        Appends (W.contents to.old) (W.contents to.new) executable) }
+{
+    let Ok(linked) = mapped.relocated(alloc, &RULES) else {
+        return Err("a relocation can't be applied");
+    };
+    write_exec(alloc, &linked, to).map_err(|_| "the executable can't be made")
+}
+
+/// The byte that the executable, read as a file, has at the base: that of the memory of the link.
+fn byte_at_base(
     alloc: Global,
     options: &Options<'_>,
-    files: &[Object<'_>],
-    address: u64,
+    mapped: &Mapped<'_>,
+    executable: &[u8],
 ) -> Result<Option<u8>, &'static str>
-    ensures { IfOk result (IsMemoryOf options.now files.now RULES address) }
+    requires { LoadsLinkOf options.now mapped.now.objects RULES executable.now }
+    ensures { IfOk result (IsMemoryOf options.now mapped.now.objects RULES options.now.base) }
 {
-    let executable = linked(alloc, options, files)?;
-    let Ok(image) = parse(alloc, &executable) else {
+    let Ok(image) = parse(alloc, executable) else {
         return Err("the executable can't be parsed");
     };
-    let found = image.load(address);
-    prove_loaded(options, files, &RULES, &executable, &image, address, found);
+    let found = image.load(options.base);
+    let objects = mapped.objects();
+    prove_loaded(
+        options,
+        objects,
+        &RULES,
+        executable,
+        &image,
+        options.base,
+        found,
+    );
     Ok(found)
+}
+
+fn write_out<W: io::Write>(executable: &[u8], to: &mut W) -> Result<(), &'static str>
+    ensures { OnOk result (Appends (W.contents to.old) (W.contents to.new) executable.now) }
+{
+    match to.write_all(executable) {
+        Ok(()) => Ok(()),
+        Err(_) => Err("the executable can't be written"),
+    }
 }
