@@ -1,6 +1,6 @@
--- Neighbours of sorted spots. If the field of each spot is after that of the spot before it, no two fields share a byte, since that order is
--- transitive (`after_all`). And if one is not, it is in the same section and starts before the end of that field, so these two share the byte
--- where it starts.
+-- Neighbours of sorted spots. If the field of each spot is after that of the spot before it, no two fields share a byte, since that order
+-- is transitive (`after_all`). And if one is not, it is in the same section and starts before the end of that field, so these two share the
+-- byte where it starts.
 use Rattle.std.proofs.Common.{◌≡◌, ℕ, ◌+◌, ◌<◌, List, length, inl, inr, sym, ◌∙◌, ap, subst, arith}
 use Rattle.std.proofs.lemmas.Bool.{cases_lt, cases_eq}
 use Rattle.elf_link_field.specs.Field.{size_of}
@@ -30,7 +30,8 @@ module _ (ds : List Field) (spots : List Spot) (are : AreSpots ds (length ds) sp
       let (a, a_in, at_a) = place ds (length ds) spots are j (omega arith) in
       let (b, b_in, at_b) = place ds (length ds) spots are k k_in in
       let here : AreSharing (its a) (its b) =
-      subst (λ i. AreSharing (its a) (field_at ds i)) (sym at_b) (subst (λ i. AreSharing (field_at ds i) (field_at ds k)) (sym at_a) sharing) in
+      subst (λ i. AreSharing (its a) (field_at ds i)) (sym at_b)
+      (subst (λ i. AreSharing (field_at ds i) (field_at ds k)) (sym at_a) sharing) in
       elim (cases_lt a b) [
         | inl below ↦ not_sharing (its a) (its b) (after_all its (length spots) after a b below b_in) here
         | inr above ↦ elim (cases_eq a b) [

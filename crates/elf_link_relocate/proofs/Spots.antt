@@ -145,13 +145,12 @@ first_decides x y rest not_less = elim (cases_lt x y) [
 in_order : (s t : Spot) → is_lt (spot_cmp t s) ≡ false →
     (s.file ≤ t.file) × (t.file ≡ s.file → (s.target ≤ t.target) × (t.target ≡ s.target → s.offset ≤ t.offset))
 in_order s t not_less =
-    let last = nat_cmp t.position s.position in
-    let (file, same) = first_decides t.file s.file (ordering_then (nat_cmp t.target s.target) (ordering_then (nat_cmp t.offset s.offset) last))
-    not_less in (
+    let rest = ordering_then (nat_cmp t.offset s.offset) (nat_cmp t.position s.position) in
+    let (file, same) = first_decides t.file s.file (ordering_then (nat_cmp t.target s.target) rest) not_less in (
       file,
       λ one. (
-          let (target, again) = first_decides t.target s.target (ordering_then (nat_cmp t.offset s.offset) last) (same one) in
-          (target, λ two. (first_decides t.offset s.offset last (again two)).0)),
+          let (target, again) = first_decides t.target s.target rest (same one) in
+          (target, λ two. (first_decides t.offset s.offset (nat_cmp t.position s.position) (again two)).0)),
     )
 
 module _ (spots : List Spot) (up : AreSorted spots) where

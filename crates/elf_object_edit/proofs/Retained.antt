@@ -30,8 +30,9 @@ rejected_fail g keep o left_out test rejected computes =
     mark_of_test (get_or left_out p false) (test p (section_at o p)) (says ∙ ap (test p) call.section_is) ∙
     sym (get_or-map-range_with_len fails 0 n p p false within (zero-add p))))
 
-pub retained_by_results : {F : Type 0} (g : Shared F (ℕ × (Bor Section × Unit {0})) Bool) (keep : F) (o : ObjectValue) (left_out : List Bool)
-    (result : Result ObjectValue WithoutFault) → AreRejected g keep o left_out → IfOk result (λ rest. rest ≡ object_without o left_out) →
+pub retained_by_results : {F : Type 0} (g : Shared F (ℕ × (Bor Section × Unit {0})) Bool) (keep : F) (o : ObjectValue)
+    (left_out : List Bool) (result : Result ObjectValue WithoutFault) → AreRejected g keep o left_out →
+    IfOk result (λ rest. rest ≡ object_without o left_out) →
     OnOk result (AreUnneeded o left_out) → IfErr result (IsWithoutFault o left_out) →
     MatchResult result (IsRetained g keep o) (IsRetainFault g keep o)
 retained_by_results g keep o left_out (Ok rest) rejected is unneeded fault =

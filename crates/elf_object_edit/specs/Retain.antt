@@ -28,13 +28,15 @@ object_retained o test = object_without o (failing_sections o test)
 -- For any closure: the result of one call for each section says whether it stays.
 
 -- a call of `keep` for section p returned this
-pub record IsResultAt {F : Type 0} (g : Shared F (ℕ × (Bor Section × Unit {0})) Bool) (keep : F) (o : ObjectValue) (p : ℕ) (result : Bool) : Type 0 where
+pub record IsResultAt {F : Type 0} (g : Shared F (ℕ × (Bor Section × Unit {0})) Bool) (keep : F) (o : ObjectValue) (p : ℕ)
+    (result : Bool) : Type 0 where
   pub section : Bor Section
   pub section_is : section_value section.now ≡ section_at o p
   pub returned : g.post keep (p, (section, tt)) result
 
 -- a mark for each section: whether a call of `keep` for it returned false
-pub record AreRejected {F : Type 0} (g : Shared F (ℕ × (Bor Section × Unit {0})) Bool) (keep : F) (o : ObjectValue) (left_out : List Bool) : Type 0 where
+pub record AreRejected {F : Type 0} (g : Shared F (ℕ × (Bor Section × Unit {0})) Bool) (keep : F) (o : ObjectValue)
+    (left_out : List Bool) : Type 0 where
   pub long : length left_out ≡ length o.sections
   pub each : (p : ℕ) → p < length o.sections → IsResultAt g keep o p (not (get_or left_out p false))
 

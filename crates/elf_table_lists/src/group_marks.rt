@@ -4,7 +4,8 @@ ghost use Rattle.elf_extent.specs.Extent.{IsLowest};
 ghost use Rattle.elf_image_rules.specs.Rows.{fault_of, FirstIn};
 ghost use Rattle.elf_table_symbols.specs.Sections.{content, count, section, sections_seen, Below};
 ghost use Rattle.elf_table_symbols.specs.Symbols.{AreKnown};
-ghost use Rattle.elf_table_lists.specs.Groups.{group_rules, group_section_rules, member_count as member_count_of, AreMarksUpTo, IsWrongMember};
+ghost use Rattle.elf_table_lists.specs.Groups.{AreMarksUpTo, IsWrongMember, group_rules, group_section_rules};
+ghost use Rattle.elf_table_lists.specs.Groups.{member_count as member_count_of};
 
 use crate::group::{is_unfit, member, member_count, member_offset, validate_group_front};
 use elf_field::abi::*;

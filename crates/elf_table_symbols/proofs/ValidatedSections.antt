@@ -1,6 +1,7 @@
 -- The sections of a file whose records were validated, as they are read where they are: their number is the file's count, each header is
 -- the one that the bytes have, and each content lies in the file, so that it is as long as its header says.
-use Rattle.std.proofs.Common.{◌≡◌, ◌∙◌, ◌<◌, ◌≤◌, ◌+◌, ◌-◌, ℕ, zero, suc, List, [], length, get_or, map, ap, refl, subst, sym, arith, zero-add, take, drop}
+use Rattle.std.proofs.Common.{◌≡◌, ◌∙◌, ◌<◌, ◌≤◌, ◌+◌, ◌-◌, ℕ, zero, suc, List, [], length, get_or, map, ap, refl, subst, sym}
+use Rattle.std.proofs.Common.{arith, zero-add, take, drop}
 use Rattle.std.proofs.lemmas.List.{get_or-map, length-take-le, length-drop}
 use Rattle.std.proofs.lemmas.List.FromFn.{get_or-map-range_with_len, length-map-range_with_len}
 use Rattle.elf_field.specs.declared.shdr.Shdr.{Shdr}

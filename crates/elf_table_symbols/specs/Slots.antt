@@ -22,4 +22,5 @@ verdict_slot_at slots k = get_or slots k (verdict_slot None)
 -- the verdict on section `section` is in its slot, of slots for the sections from `first` on
 abbrev pub IsKept : ℕ → List TableFault → ℕ → Option (ℕ × ℕ) → Type 0
 IsKept first slots section found =
-    (k : ℕ) × (k < length slots) × (section ≡ first + k) × ((verdict_slot_at slots k).rule ≢ LEFT_OUT) × (found ≡ fault_in_slot (verdict_slot_at slots k))
+    (k : ℕ) × (k < length slots) × (section ≡ first + k) × ((verdict_slot_at slots k).rule ≢ LEFT_OUT) ×
+    (found ≡ fault_in_slot (verdict_slot_at slots k))

@@ -307,8 +307,8 @@ pub record AreSymbolVerdicts (f : Sections) (end : ℕ) (verdicts : List (Option
 
 -- each slot of a symbol table that has a verdict has the right one, of slots for the sections from `first` on
 abbrev pub AreSlotVerdicts : Sections → ℕ → List TableFault → Type 0
-AreSlotVerdicts f first slots = (i : ℕ) (found : Option (ℕ × ℕ)) → i < count f → IsSymbolType (section f i).sh_type → IsKept first slots i found →
-    FirstIn (symbol_table_rules f i) found
+AreSlotVerdicts f first slots = (i : ℕ) (found : Option (ℕ × ℕ)) → i < count f → IsSymbolType (section f i).sh_type →
+    IsKept first slots i found → FirstIn (symbol_table_rules f i) found
 
 -- each that is known is the first rule that the symbol table breaks, with its lowest offset
 abbrev pub AreKnown : Sections → SymbolVerdicts → Type 0

@@ -57,8 +57,8 @@ fn link<W: io::Write>(
     second: &[u8],
     to: &mut W,
 ) -> Result<Option<u8>, &'static str>
-    // The files are objects, and what was written is the executable of their link by these options: an image that loads its memory, with the
-    // value of the entry symbol as `e_entry`. What is returned is the byte of this memory.
+    // The files are objects, and what was written is the executable of their link by these options: an image that loads its memory, with
+    // the value of the entry symbol as `e_entry`. What is returned is the byte of this memory.
     ensures { IfOk result (λ found. (objects : List ObjectValue) × AreObjectFiles (first.now ∷ second.now ∷ []) objects ×
         ((executable : List ℕ) × LoadsLinkOf options.now objects RULES executable ×
         Appends (W.contents to.old) (W.contents to.new) executable ×

@@ -5,10 +5,11 @@ as often as a sum has parts.
 An expression is followed through the variables and the parameters of a function, the calls of the
 libraries, and their constants. A difference, a quotient, a remainder and a shift to the right are
 no more than their first part. The least of several is a length if one of them is, and the greatest
-if all are. A product and a shift to the left are findings. So is whatever is not understood, unless
-a contract bounds it: a clause of the function says that the name is, or is at most, a length or a
-`MAX_`.. of the definitions; or a clause names a definition of BOUNDING, of which these names are
-parts."""
+if all are. A product is a sum of few parts if the first of its parts is a constant of at most
+MOST_PARTS. Any other is a finding, and so is a shift to the left. So is whatever is not understood,
+unless a contract bounds it: a clause of the function says that the name is, or is at most, a length
+or a `MAX_`.. of the definitions; or a clause names a definition of BOUNDING, of which these names
+are parts."""
 
 import functools
 import operator
@@ -78,6 +79,10 @@ FIRST = {
     "unwrap_or_default",
 }
 LENGTHS = {"len", "capacity"}
+# A product by a constant of at most so much is as a sum of so many parts.
+MOST_PARTS = 4
+# An arm of a `match` that is one line.
+ARM = re.compile(r"\S.* => (\S.*),")
 OPENING = "([{"
 CLOSING = ")]}"
 
@@ -356,11 +361,21 @@ class Sizes:
             return next(filter(None, found), "") if name in ALL or all(found) else ""
         if name in FIRST:
             return self.judge(function, node.parts[0], seen)
+        if name == "*" and self.is_few(node.parts[0]):
+            return self.judge(function, node.parts[1], seen)
         if name in VALUES:
             return f"{name} makes it longer than its parts"
         if name in self.named:
             return self.judge_call(function, node, seen)
         return f"{name} is no method of lengths"
+
+    def is_few(self, node: Node) -> bool:
+        """Whether it is a constant so small that a product by it is as a sum of few parts."""
+        try:
+            value = self.value(node)
+        except (Unread, ZeroDivisionError):
+            return False
+        return value is not None and 0 <= value <= MOST_PARTS
 
     def judge_call(self, function: Function, node: Node, seen: Seen) -> str:
         """All functions of this name are bounded: by a contract, or what they answer is."""
@@ -380,13 +395,9 @@ class Sizes:
         return ""
 
     def judge_answer(self, function: Function, seen: Seen) -> str:
-        """What a function answers, its last line, is bounded."""
-        end = function.end - 1
-        last = function.lines[end].strip() if end > function.begin else ""
-        try:
-            return self.judge(function, Parser(last).whole(), seen)
-        except Unread:
-            return "what it answers is no length in hand"
+        """What a function answers is bounded."""
+        found = (self.judge_text(function, it, seen) for it in answers_of(function))
+        return next(filter(None, found), "")
 
     def is_bounded(self, function: Function, name: str) -> bool:
         """Whether a clause of the function says that what has this name is at most a length."""
@@ -440,6 +451,15 @@ class Sizes:
         if not given:
             return f"nothing in the libraries gives {function.name} its {name}"
         return next(filter(None, (self.judge_text(own, it, seen) for own, it in given)), "")
+
+
+def answers_of(function: Function) -> list[str]:
+    """What a function answers: its last line, or each arm where it is one `match`."""
+    lines = [function.lines[at].strip() for at in function.inner]
+    arms = [ARM.fullmatch(it) for it in lines[1:-1]]
+    if len(lines) > 2 and lines[0].startswith("match ") and all(arms):
+        return [it[1] for it in arms if it]
+    return lines[-1:] or ["?"]
 
 
 def call_of(function: Function, is_method: bool) -> re.Pattern[str]:

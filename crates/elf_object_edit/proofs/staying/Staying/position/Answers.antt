@@ -16,5 +16,6 @@ returns c =
     ap (λ (xs : List _). get_or xs m 0) own.right ∙ place_get (stays marks) (length marks) m within ∙
     elim (cases_lt c.args.p (length marks)) [
       | inl there ↦ ap (new_position marks) (omega arith)
-      | inr past ↦ ap (new_position marks) (omega arith) ∙ sym (place_past (stays marks) (length marks) c.args.p (λ k. get_or_past marks k false) past)
+      | inr past ↦ ap (new_position marks) (omega arith) ∙
+          sym (place_past (stays marks) (length marks) c.args.p (λ k. get_or_past marks k false) past)
     ]
