@@ -4,10 +4,10 @@
 //! let rest = without(alloc, &object, &[false, true])?;
 //! ```
 //!
-//! [`retain`] has a closure that says which sections stay. Without the sections that the program does not load:
+//! [`retain`] has a closure that says which sections stay. Without those that take no memory in a program (flag `SHF_ALLOC`, 2):
 //!
 //! ```
-//! let rest = retain(alloc, &object, |_, section| section.flags & SHF_ALLOC != 0)?;
+//! let rest = retain(alloc, &object, |_, section| section.flags & 2 != 0)?;
 //! ```
 #![tactic(auto)]
 
