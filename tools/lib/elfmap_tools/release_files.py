@@ -221,7 +221,7 @@ def put_release(folder: str, version: str) -> None:
 
 
 # How an archive of an ending is compressed.
-COMPRESSORS = {"gz": "gzip -9n", "xz": "xz -9e -T1"}
+COMPRESSORS = {"crate": "gzip -9n", "gz": "gzip -9n", "xz": "xz -9e -T1"}
 
 
 def archived(folder: str, path: str) -> str:
