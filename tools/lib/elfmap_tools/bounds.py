@@ -11,6 +11,7 @@ import shutil
 import signal
 import subprocess
 import sys
+import time
 from functools import cache
 from typing import IO, NamedTuple
 
@@ -28,6 +29,10 @@ SIZES = (MB // 4, MB // 2, MB, 2 * MB, 4 * MB)
 # START more.
 SECONDS = 0.5
 START = 0.03
+# They are those of a machine that takes so many seconds for so many steps of a loop in Python. On a
+# slower one, as a virtual machine whose host does other work, each call may take as many times more.
+LOOP_SECONDS = 0.25
+LOOP_STEPS = 1000000
 LEAST_MEMORY = 32 << 20
 MEMORY = 12
 SEEKING_LEAST = 4 << 20
@@ -141,6 +146,15 @@ def cost_of(folder: str, command: str, file: str) -> Cost:
     return Cost(ran.returncode, well, is_cut, seconds, moved, int(said.get("peak", 0)))
 
 
+def slowness() -> float:
+    """How many times slower than the machine of the bounds this one is just now; 1 if it is not."""
+    began = time.process_time()
+    total = 0
+    for step in range(LOOP_STEPS):
+        total += step * step % 7
+    return max(1, (time.process_time() - began) / LOOP_SECONDS)
+
+
 def wrong_with(command: str, length: int, it: Cost, standing: Standing, tables: int = 0) -> str:
     """Why a call on a file of so many bytes breaks a bound; `tables` is how many of them are its
     tables."""
@@ -149,7 +163,8 @@ def wrong_with(command: str, length: int, it: Cost, standing: Standing, tables: 
     own, more = (PYTHON_SECONDS, PYTHON_MEMORY) if command in OF_PYTHON else (0, 0)
     times = max(1, length / SIZES[0]) ** 2
     seconds = START + own + max(SECONDS * it.moved / MB, standing.seconds * times)
-    if it.seconds > seconds:
+    # Whether the machine is slow is asked only where a call takes too long.
+    if it.seconds > seconds and it.seconds > seconds * slowness():
         most = f"{seconds:.2f} at most, for {it.moved:,} bytes in and out"
         return f"it takes {it.seconds:.2f} s, and not {most}"
     bound = LEAST_MEMORY + MEMORY * length
