@@ -29,9 +29,9 @@ SIZES = (MB // 4, MB // 2, MB, 2 * MB, 4 * MB)
 # START more.
 SECONDS = 0.5
 START = 0.03
-# They are those of a machine that takes so many seconds for so many steps of a loop in Python. On a
-# slower one, as a virtual machine whose host does other work, each call may take as many times more.
-LOOP_SECONDS = 0.25
+# They are those of a machine that takes so many seconds for so many steps of a loop in Python. On
+# a slower one, as a virtual machine whose host does other work, a call may take as many times more.
+LOOP_SECONDS = 0.12
 LOOP_STEPS = 1000000
 LEAST_MEMORY = 32 << 20
 MEMORY = 12
